@@ -1,0 +1,101 @@
+-- The refusals have the numbers 1 to 11, each once; the index is 0 but for 3 and 4; a refusal's number and index determine it.
+-- All by computing with the function back from a number to the refusal. Assumes nothing.
+use mathlib.Core.Path.{_≡_, refl, sym, ap, ap₂, _∙_}
+use mathlib.Core.Bool.{Bool, true, cond, _&&_}
+use Prim.Native.Nat.{ℕ, zero, suc, _≤_, _<_}
+use native.Mathlib.Omega.{arith}
+use native.Mathlib.Decide.{decLt}
+use lib.Dec.{T, eqb, eqb→eq, lit≤}
+use Rattle.answers.specs.declared.Code.{Code}
+use Rattle.answers.specs.declared.Refusal.{Refusal}
+use Rattle.answers.specs.declared.Refusal.the-variants.{TooLong, NoFactorization, BadEnd, NotRepetition, Unfinished, BadPosition, TooFewPlaces, BadChoice, ShortTable, OddPath, NotPlan}
+use Rattle.answers.specs.Outcome.{Outcome, refused, codeOf, refusal}
+
+-- how many refusals there are
+abbrev pub refusals : ℕ
+refusals = 11
+
+-- the refusal with a number and an index
+abbrev pub withCode : ℕ → ℕ → Refusal
+withCode n i =
+    cond (eqb n 1) TooLong
+    (cond (eqb n 2) NoFactorization
+    (cond (eqb n 3) (BadEnd i)
+    (cond (eqb n 4) (NotRepetition i)
+    (cond (eqb n 5) Unfinished
+    (cond (eqb n 6) BadPosition
+    (cond (eqb n 7) TooFewPlaces (cond (eqb n 8) BadChoice (cond (eqb n 9) ShortTable (cond (eqb n 10) OddPath NotPlan)))))))))
+
+with-code : (r : Refusal) → withCode (codeOf r .number) (codeOf r .index) ≡ r
+with-code TooLong = refl
+with-code NoFactorization = refl
+with-code (BadEnd i) = refl
+with-code (NotRepetition i) = refl
+with-code Unfinished = refl
+with-code BadPosition = refl
+with-code TooFewPlaces = refl
+with-code BadChoice = refl
+with-code ShortTable = refl
+with-code OddPath = refl
+with-code NotPlan = refl
+
+-- a refusal is determined by what it returns
+pub refusal-injective : (r s : Refusal) → refusal r ≡ refusal s → r ≡ s
+refusal-injective r s e =
+    let n : codeOf r .number ≡ codeOf s .number = cc in
+    let i : codeOf r .index ≡ codeOf s .index = cc in
+    sym (with-code r) ∙ ap₂ withCode n i ∙ with-code s
+
+-- each number is from 1 to 11
+pub number-range : (r : Refusal) → (1 ≤ codeOf r .number) × (codeOf r .number ≤ refusals)
+number-range TooLong = (lit≤ tt, lit≤ tt)
+number-range NoFactorization = (lit≤ tt, lit≤ tt)
+number-range (BadEnd i) = (lit≤ tt, lit≤ tt)
+number-range (NotRepetition i) = (lit≤ tt, lit≤ tt)
+number-range Unfinished = (lit≤ tt, lit≤ tt)
+number-range BadPosition = (lit≤ tt, lit≤ tt)
+number-range TooFewPlaces = (lit≤ tt, lit≤ tt)
+number-range BadChoice = (lit≤ tt, lit≤ tt)
+number-range ShortTable = (lit≤ tt, lit≤ tt)
+number-range OddPath = (lit≤ tt, lit≤ tt)
+number-range NotPlan = (lit≤ tt, lit≤ tt)
+
+-- the test passes at each number from 1 to n
+abbrev upTo : (ℕ → Bool) → ℕ → Bool
+upTo t zero = true
+upTo t (suc n) = upTo t n && t (suc n)
+
+and-left : (x y : Bool) → T (x && y) → T x
+and-left true y h = tt
+and-left Bool.false y h = h
+
+and-right : (x y : Bool) → T (x && y) → T y
+and-right true y h = h
+and-right Bool.false y h = absurd h
+
+up-to : (t : ℕ → Bool) (n : ℕ) → T (upTo t n) → (i : ℕ) → 1 ≤ i → i ≤ n → T (t i)
+up-to t zero h i a b = absurd (omega arith)
+up-to t (suc n) h i a b = go (up-to t n (and-left (upTo t n) (t (suc n)) h) i a) (decLt n i)
+  where
+    go : (i ≤ n → T (t i)) → Dec (n < i) → T (t i)
+    go below (yes l) = let e : i ≡ suc n = omega arith in rw e (and-right (upTo t n) (t (suc n)) h)
+    go below (no l) = below (omega arith)
+
+-- each number from 1 to 11 is a refusal's
+pub number-taken : (n i : ℕ) → 1 ≤ n → n ≤ refusals → codeOf (withCode n i) .number ≡ n
+number-taken n i a b =
+    eqb→eq (codeOf (withCode n i) .number) n (up-to (λ m. eqb (codeOf (withCode m i) .number) m) refusals tt n a b)
+
+-- only 3 and 4 have an index
+pub index-zero : (r : Refusal) → (codeOf r .number ≡ 3 → ⊥) → (codeOf r .number ≡ 4 → ⊥) → codeOf r .index ≡ 0
+index-zero TooLong a b = refl
+index-zero NoFactorization a b = refl
+index-zero (BadEnd i) a b = absurd (a refl)
+index-zero (NotRepetition i) a b = absurd (b refl)
+index-zero Unfinished a b = refl
+index-zero BadPosition a b = refl
+index-zero TooFewPlaces a b = refl
+index-zero BadChoice a b = refl
+index-zero ShortTable a b = refl
+index-zero OddPath a b = refl
+index-zero NotPlan a b = refl

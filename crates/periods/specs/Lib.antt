@@ -1,0 +1,2 @@
+pub mod Period
+pub mod Part

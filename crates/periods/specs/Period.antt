@@ -1,0 +1,66 @@
+-- Periods and repetitions of a word, which is the list of its symbols (passes). Definitions only; proofs/ shows that the computed ones agree with the others.
+use mathlib.Core.Bool.{Bool, true, _&&_}
+use mathlib.Core.List.{List, [], _∷_, _++_}
+use Prim.Native.Nat.{ℕ, zero, suc, _+_, _-_, _*_, _≤_, _<_}
+use mathlib.Core.Path.{_≡_}
+use lib.Dec.{T, leb, ltb, eqb}
+use lib.ListN.{length, getD, take, drop}
+
+-- the part of a word after boundary (joint) a, up to boundary b: its symbols at the positions a + 1 to b
+abbrev pub part : List ℕ → ℕ → ℕ → List ℕ
+part w a b = take (b - a) (drop a w)
+
+-- "p is a period of a non-empty part when 1 ≤ p ≤ its length and any two of its passes p apart are equal."
+pub record Period (s : List ℕ) (p : ℕ) : Type 0 where
+  pub positive : 1 ≤ p
+  pub fits : p ≤ length s
+  pub same : (i : ℕ) → i + p < length s → getD s i 0 ≡ getD s (i + p) 0
+
+-- the unit: "the smallest p at which no pair of passes p apart differs"
+pub record SmallestPeriod (s : List ℕ) (p : ℕ) : Type 0 where
+  pub period : Period s p
+  pub least : (q : ℕ) → Period s q → p ≤ q
+
+-- a block: "A part with length ≥ 2 × unit". The turn number is k for 2, and only the periods that a test allows count.
+pub record Repetition (allowed : ℕ → Bool) (k : ℕ) (s : List ℕ) : Type 0 where
+  pub period : ℕ
+  pub smallest : SmallestPeriod s period
+  pub long : k * period ≤ length s
+  pub permitted : T (allowed period)
+
+-- document 01: "length ≥ 2 × unit", and "A unit may be of any length."
+abbrev pub turns : ℕ
+turns = 2
+
+abbrev pub anyPeriod : ℕ → Bool
+anyPeriod p = true
+
+-- ---- the same, computed
+
+-- the test passes at each of the d numbers from i on
+abbrev pub all : (ℕ → Bool) → ℕ → ℕ → Bool
+all t i zero = true
+all t i (suc d) = t i && all t (suc i) d
+
+-- the first of the d numbers from p on that passes the test, or p + d where none does
+abbrev pub seek : (ℕ → Bool) → ℕ → ℕ → ℕ
+seek t zero p = p
+seek t (suc d) p = elim (t p) [ true ↦ p | Bool.false ↦ seek t d (suc p) ]
+
+-- no pair of symbols p apart differs
+abbrev pub agrees : List ℕ → ℕ → Bool
+agrees s p = all (λ i. eqb (getD s i 0) (getD s (i + p) 0)) 0 (length s - p)
+
+-- the smallest period (unit); 0 for the empty word, which has none
+unfoldable pub smallestPeriod : List ℕ → ℕ
+smallestPeriod [] = 0
+smallestPeriod (x ∷ xs) = seek (agrees (x ∷ xs)) (length xs) 1
+
+-- whether a word is a repetition (block)
+unfoldable pub repetition? : (ℕ → Bool) → ℕ → List ℕ → Bool
+repetition? allowed k s = ltb 0 (length s) && (leb (k * smallestPeriod s) (length s) && allowed (smallestPeriod s))
+
+-- the smallest periods of the prefixes of lengths 1 to m, in this order
+unfoldable pub prefixPeriods : List ℕ → ℕ → List ℕ
+prefixPeriods s zero = []
+prefixPeriods s (suc m) = prefixPeriods s m ++ (smallestPeriod (take (suc m) s) ∷ [])
