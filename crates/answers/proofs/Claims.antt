@@ -26,7 +26,7 @@ withCode n i =
     (cond (eqb n 6) BadPosition
     (cond (eqb n 7) TooFewPlaces (cond (eqb n 8) BadChoice (cond (eqb n 9) ShortTable (cond (eqb n 10) OddPath NotPlan)))))))))
 
-with-code : (r : Refusal) → withCode (codeOf r .number) (codeOf r .index) ≡ r
+with-code : (r : Refusal) → withCode (codeOf r .0) (codeOf r .1) ≡ r
 with-code TooLong = refl
 with-code NoFactorization = refl
 with-code (BadEnd i) = refl
@@ -42,12 +42,12 @@ with-code NotPlan = refl
 -- a refusal is determined by what it returns
 pub refusal-injective : (r s : Refusal) → refusal r ≡ refusal s → r ≡ s
 refusal-injective r s e =
-    let n : codeOf r .number ≡ codeOf s .number = cc in
-    let i : codeOf r .index ≡ codeOf s .index = cc in
+    let n : codeOf r .0 ≡ codeOf s .0 = cc in
+    let i : codeOf r .1 ≡ codeOf s .1 = cc in
     sym (with-code r) ∙ ap₂ withCode n i ∙ with-code s
 
 -- each number is from 1 to 11
-pub number-range : (r : Refusal) → (1 ≤ codeOf r .number) × (codeOf r .number ≤ refusals)
+pub number-range : (r : Refusal) → (1 ≤ codeOf r .0) × (codeOf r .0 ≤ refusals)
 number-range TooLong = (lit≤ tt, lit≤ tt)
 number-range NoFactorization = (lit≤ tt, lit≤ tt)
 number-range (BadEnd i) = (lit≤ tt, lit≤ tt)
@@ -82,12 +82,12 @@ up-to t (suc n) h i a b = go (up-to t n (and-left (upTo t n) (t (suc n)) h) i a)
     go below (no l) = below (omega arith)
 
 -- each number from 1 to 11 is a refusal's
-pub number-taken : (n i : ℕ) → 1 ≤ n → n ≤ refusals → codeOf (withCode n i) .number ≡ n
+pub number-taken : (n i : ℕ) → 1 ≤ n → n ≤ refusals → codeOf (withCode n i) .0 ≡ n
 number-taken n i a b =
-    eqb→eq (codeOf (withCode n i) .number) n (up-to (λ m. eqb (codeOf (withCode m i) .number) m) refusals tt n a b)
+    eqb→eq (codeOf (withCode n i) .0) n (up-to (λ m. eqb (codeOf (withCode m i) .0) m) refusals tt n a b)
 
 -- only 3 and 4 have an index
-pub index-zero : (r : Refusal) → (codeOf r .number ≡ 3 → ⊥) → (codeOf r .number ≡ 4 → ⊥) → codeOf r .index ≡ 0
+pub index-zero : (r : Refusal) → (codeOf r .0 ≡ 3 → ⊥) → (codeOf r .0 ≡ 4 → ⊥) → codeOf r .1 ≡ 0
 index-zero TooLong a b = refl
 index-zero NoFactorization a b = refl
 index-zero (BadEnd i) a b = absurd (a refl)

@@ -16,17 +16,17 @@ pub data Outcome : Type 0 where
 
 -- the number and the index of each refusal
 abbrev pub codeOf : Refusal → Code
-codeOf TooLong = record { number = 1; index = 0 }
-codeOf NoFactorization = record { number = 2; index = 0 }
-codeOf (BadEnd i) = record { number = 3; index = i }
-codeOf (NotRepetition i) = record { number = 4; index = i }
-codeOf Unfinished = record { number = 5; index = 0 }
-codeOf BadPosition = record { number = 6; index = 0 }
-codeOf TooFewPlaces = record { number = 7; index = 0 }
-codeOf BadChoice = record { number = 8; index = 0 }
-codeOf ShortTable = record { number = 9; index = 0 }
-codeOf OddPath = record { number = 10; index = 0 }
-codeOf NotPlan = record { number = 11; index = 0 }
+codeOf TooLong = record { 0 = 1; 1 = 0 }
+codeOf NoFactorization = record { 0 = 2; 1 = 0 }
+codeOf (BadEnd i) = record { 0 = 3; 1 = i }
+codeOf (NotRepetition i) = record { 0 = 4; 1 = i }
+codeOf Unfinished = record { 0 = 5; 1 = 0 }
+codeOf BadPosition = record { 0 = 6; 1 = 0 }
+codeOf TooFewPlaces = record { 0 = 7; 1 = 0 }
+codeOf BadChoice = record { 0 = 8; 1 = 0 }
+codeOf ShortTable = record { 0 = 9; 1 = 0 }
+codeOf OddPath = record { 0 = 10; 1 = 0 }
+codeOf NotPlan = record { 0 = 11; 1 = 0 }
 
 abbrev pub refusal : Refusal → Outcome
-refusal r = refused (codeOf r .number) (codeOf r .index)
+refusal r = refused (codeOf r .0) (codeOf r .1)

@@ -32,26 +32,23 @@ pub enum Refusal {
     NotPlan,
 }
 
-// What document 01 says a refusal returns.
-pub struct Code {
-    pub number: u32,
-    pub index: u32,
-}
+// What document 01 says a refusal returns: its number and its index.
+pub struct Code(pub u32, pub u32);
 
 pub fn coded(r: Refusal) -> Code
-    ensures { λ c. ⌜ (c .number ≡ codeOf r .number) × (c .index ≡ codeOf r .index) ⌝ }
+    ensures { λ c. ⌜ (c .0 ≡ codeOf r .0) × (c .1 ≡ codeOf r .1) ⌝ }
 {
     match r {
-        Refusal::TooLong => Code { number: 1, index: 0 },
-        Refusal::NoFactorization => Code { number: 2, index: 0 },
-        Refusal::BadEnd(i) => Code { number: 3, index: i },
-        Refusal::NotRepetition(i) => Code { number: 4, index: i },
-        Refusal::Unfinished => Code { number: 5, index: 0 },
-        Refusal::BadPosition => Code { number: 6, index: 0 },
-        Refusal::TooFewPlaces => Code { number: 7, index: 0 },
-        Refusal::BadChoice => Code { number: 8, index: 0 },
-        Refusal::ShortTable => Code { number: 9, index: 0 },
-        Refusal::OddPath => Code { number: 10, index: 0 },
-        Refusal::NotPlan => Code { number: 11, index: 0 },
+        Refusal::TooLong => Code(1, 0),
+        Refusal::NoFactorization => Code(2, 0),
+        Refusal::BadEnd(i) => Code(3, i),
+        Refusal::NotRepetition(i) => Code(4, i),
+        Refusal::Unfinished => Code(5, 0),
+        Refusal::BadPosition => Code(6, 0),
+        Refusal::TooFewPlaces => Code(7, 0),
+        Refusal::BadChoice => Code(8, 0),
+        Refusal::ShortTable => Code(9, 0),
+        Refusal::OddPath => Code(10, 0),
+        Refusal::NotPlan => Code(11, 0),
     }
 }

@@ -1,129 +1,121 @@
+-- `periods::inner::units` meets its contract: its loop keeps `Upto` of proofs/Units.antt. Assumes nothing.
+use mathlib.Core.Path.{_≡_, refl, sym, _∙_}
+use Prim.Native.Nat.{ℕ, _+_, _-_, _<_, _≤_}
+use native.Mathlib.Omega.{arith}
+use mathlib.Core.List.{List, [], _∷_, _++_}
+use lib.ListN.{length, getD, drop, length-set}
+use Rattle.periods.specs.Period.{prefixPeriods}
+use Rattle.periods.proofs.Units.{Upto, units-start, units-agree, units-next, units-next-low, units-next-high, units-whole, units-done}
 use Rattle.periods.proofs.inner.units.Statement.{statement}
 use Rattle.periods.proofs.inner.units.Tie as tie
 use Rattle.periods.proofs.inner.units.Reads as reads
 use Rattle.periods.proofs.inner.units.Lts as lts
 
+empty : (s t : List ℕ) → length s ≡ 0 → t ≡ prefixPeriods s (length s) ++ drop (length s) t
+unfolding prefixPeriods
+empty [] t e = refl
+empty (x ∷ s) t e = absurd (omega arith)
+
 abbrev Inv-loop : tie.InvT-loop
-Inv-loop part table₀ n m₀ d₀ table m d = ?
+Inv-loop part table₀ n m₀ d₀ table m d = (1 ≤ d) × (d ≤ m) × (m ≤ n) × Upto part table₀ table m d
 
 abbrev μ-loop : tie.MeasureT-loop
-μ-loop part table₀ n m₀ d₀ table m d = ?
+μ-loop part table₀ n m₀ d₀ table m d = n + n + 1 - (m + d)
 
--- src/inner.rt:18:9
 returns : tie.Need-returns Inv-loop μ-loop
-returns c = ?
+returns c = empty _ _ (c .if1 .taken)
 
--- src/inner.rt:20:5
 slice-write-table : tie.Need-slice-write-table Inv-loop μ-loop
-slice-write-table c = ?
+slice-write-table c = omega arith
 
--- src/inner.rt:23:5
 loop-holds : tie.Need-loop-holds Inv-loop μ-loop
-loop-holds c = ?
+loop-holds c = (omega arith, omega arith, omega arith, units-start (c .before .args .part .now) (c .before .args .table .now) (omega arith) (omega arith))
 
--- src/inner.rt:24:12
 shared-slice-read-if2 : tie.Need-shared-slice-read-if2 Inv-loop μ-loop
-shared-slice-read-if2 c = ?
+shared-slice-read-if2 c = omega arith
 
--- src/inner.rt:24:28
 sub-if2 : tie.Need-sub-if2 Inv-loop μ-loop
-sub-if2 c = ?
+sub-if2 c = omega arith
 
--- src/inner.rt:24:23
 shared-slice-read-if2-2 : tie.Need-shared-slice-read-if2-2 Inv-loop μ-loop
-shared-slice-read-if2-2 c = ?
+shared-slice-read-if2-2 c = omega arith
 
--- src/inner.rt:25:24
 cast-table : tie.Need-cast-table Inv-loop μ-loop
-cast-table c = ?
+cast-table c = omega arith
 
--- src/inner.rt:25:13
 mul-table : tie.Need-mul-table Inv-loop μ-loop
-mul-table c = ?
+mul-table c = omega arith
 
--- src/inner.rt:25:13
 slice-write-table-2 : tie.Need-slice-write-table-2 Inv-loop μ-loop
-slice-write-table-2 c = ?
+slice-write-table-2 c = omega (arith, c .before .before .before .before .loop .inv .3 .long, c .before .before .before .before .loop .inv .3 .room)
 
--- src/inner.rt:26:13
 add-m : tie.Need-add-m Inv-loop μ-loop
-add-m c = ?
+add-m c = omega arith
 
--- src/inner.rt:23:5
 loop-less : tie.Need-loop-less Inv-loop μ-loop
-loop-less c = ?
+loop-less c = omega arith
 
--- src/inner.rt:23:5
 loop-again : tie.Need-loop-again Inv-loop μ-loop
-loop-again c = ?
+loop-again c = (omega arith, omega arith, omega arith, units-agree _ _ _ _ _ (c .before .before .before .before .loop .inv .3) (omega arith) (c .if2 .taken))
 
--- src/inner.rt:30:24
 sub-d : tie.Need-sub-d Inv-loop μ-loop
-sub-d c = ?
+sub-d c = omega arith
 
--- src/inner.rt:30:24
 sub-d-2 : tie.Need-sub-d-2 Inv-loop μ-loop
-sub-d-2 c = ?
+sub-d-2 c = omega arith
 
--- src/inner.rt:30:18
 mul-d : tie.Need-mul-d Inv-loop μ-loop
-mul-d c = ?
+mul-d c = omega arith
 
--- src/inner.rt:30:18
 slice-read-d : tie.Need-slice-read-d Inv-loop μ-loop
-slice-read-d c = ?
+slice-read-d c = omega (arith, c .before .before .before .before .before .before .loop .inv .3 .long, c .before .before .before .before .before .before .loop .inv .3 .room)
 
--- src/inner.rt:30:18
+-- what is read is the smallest period of a shorter prefix
+next-bounds : (c : tie.After-slice-known Inv-loop μ-loop)
+    → (1 ≤ getD (c .before .before .before .before .before .before .loop .table) (c .before .before .before .before .before .before .loop .m - c .before .before .before .before .before .before .loop .d - 1) 0) × (getD (c .before .before .before .before .before .before .loop .table) (c .before .before .before .before .before .before .loop .m - c .before .before .before .before .before .before .loop .d - 1) 0 ≤ c .before .before .before .before .before .before .loop .m - c .before .before .before .before .before .before .loop .d)
+next-bounds c = (
+  units-next-low _ _ _ _ _ (c .before .before .before .before .before .before .loop .inv .3) (omega arith) (c .before .if3 .taken),
+  units-next-high _ _ _ _ _ (c .before .before .before .before .before .before .loop .inv .3) (omega arith) (c .before .if3 .taken),
+)
+
 cast-d : tie.Need-cast-d Inv-loop μ-loop
-cast-d c = ?
+cast-d c = omega (arith, next-bounds c)
 
--- src/inner.rt:30:13
 add-d : tie.Need-add-d Inv-loop μ-loop
-add-d c = ?
+add-d c = omega (arith, next-bounds c)
 
--- src/inner.rt:23:5
 loop-less-2 : tie.Need-loop-less-2 Inv-loop μ-loop
-loop-less-2 c = ?
+loop-less-2 c = omega (arith, next-bounds c)
 
--- src/inner.rt:23:5
 loop-again-2 : tie.Need-loop-again-2 Inv-loop μ-loop
-loop-again-2 c = ?
+loop-again-2 c = (omega arith, omega (arith, next-bounds c), omega arith, units-next _ _ _ _ _ (c .before .before .before .before .before .before .loop .inv .3) (omega arith) (c .before .before .if2 .left) (c .before .if3 .taken))
 
--- src/inner.rt:33:13
 add-d-2 : tie.Need-add-d-2 Inv-loop μ-loop
-add-d-2 c = ?
+add-d-2 c = omega arith
 
--- src/inner.rt:34:20
 cast-table-2 : tie.Need-cast-table-2 Inv-loop μ-loop
-cast-table-2 c = ?
+cast-table-2 c = omega arith
 
--- src/inner.rt:34:9
 mul-table-2 : tie.Need-mul-table-2 Inv-loop μ-loop
-mul-table-2 c = ?
+mul-table-2 c = omega arith
 
--- src/inner.rt:34:9
 slice-write-table-3 : tie.Need-slice-write-table-3 Inv-loop μ-loop
-slice-write-table-3 c = ?
+slice-write-table-3 c = omega (arith, c .before .before .before .before .before .loop .inv .3 .long, c .before .before .before .before .before .loop .inv .3 .room)
 
--- src/inner.rt:35:9
 add-m-2 : tie.Need-add-m-2 Inv-loop μ-loop
-add-m-2 c = ?
+add-m-2 c = omega arith
 
--- src/inner.rt:23:5
 loop-less-3 : tie.Need-loop-less-3 Inv-loop μ-loop
-loop-less-3 c = ?
+loop-less-3 c = omega arith
 
--- src/inner.rt:23:5
 loop-again-3 : tie.Need-loop-again-3 Inv-loop μ-loop
-loop-again-3 c = ?
+loop-again-3 c = (omega arith, omega arith, omega arith, units-whole _ _ _ _ _ (c .before .before .before .before .before .loop .inv .3) (omega arith) (c .before .if2 .left) (c .if3 .left))
 
--- src/inner.rt:12:1
 same-length : tie.Need-same-length Inv-loop μ-loop
-same-length c = ?
+same-length c = c .before .loop .inv .3 .long ∙ length-set (c .before .before .before .args .table .now) 0 1
 
--- src/inner.rt:12:1
 returns-2 : tie.Need-returns-2 Inv-loop μ-loop
-returns-2 c = ?
+returns-2 c = units-done _ _ _ _ _ (omega arith) (omega arith) (c .before .loop .inv .3)
 
 pub units-spec : {M : Type 1} → statement M
 units-spec =

@@ -1,0 +1,70 @@
+-- Document 01's examples of the definitions that the contracts of this crate cite, computed. Assumes nothing.
+use mathlib.Core.Path.{_≡_, refl}
+use mathlib.Core.Bool.{true, false}
+use mathlib.Core.List.{List, [], _∷_}
+use Prim.Native.Nat.{ℕ}
+use lib.ListN.{replicate}
+use Rattle.answers.specs.Outcome.{Outcome, accepted, refused}
+use Rattle.periods.specs.Period.{smallestPeriod, repetition?, prefixPeriods, anyPeriod}
+use Rattle.periods.specs.Part.{partOutcome, description}
+
+abbrev ababa : List ℕ
+ababa = 97 ∷ 98 ∷ 97 ∷ 98 ∷ 97 ∷ []
+
+abbrev aabaabaa : List ℕ
+aabaabaa = 97 ∷ 97 ∷ 98 ∷ 97 ∷ 97 ∷ 98 ∷ 97 ∷ 97 ∷ []
+
+-- "ababa * | 5 (unit 2, turns 2, rest 1)"
+pub part-of-ababa : partOutcome ababa 1 5 ≡ accepted (2 ∷ 2 ∷ 1 ∷ 1 ∷ [])
+unfolding partOutcome description repetition? smallestPeriod
+part-of-ababa = refl
+
+-- the block of the printed text: "block,1,1,8,3,2,2,2"
+pub part-of-aabaabaa : partOutcome aabaabaa 1 8 ≡ accepted (3 ∷ 2 ∷ 2 ∷ 1 ∷ [])
+unfolding partOutcome description repetition? smallestPeriod
+part-of-aabaabaa = refl
+
+-- the single symbol has a period, itself, and is no block
+pub part-of-one : partOutcome ababa 2 2 ≡ accepted (1 ∷ 1 ∷ 0 ∷ 0 ∷ [])
+unfolding partOutcome description repetition? smallestPeriod
+part-of-one = refl
+
+-- "6: first below 1, last above n or first above last"
+pub part-first-zero : partOutcome ababa 0 5 ≡ refused 6 0
+unfolding partOutcome
+part-first-zero = refl
+
+pub part-last-above : partOutcome ababa 1 6 ≡ refused 6 0
+unfolding partOutcome
+part-last-above = refl
+
+pub part-turned : partOutcome ababa 4 3 ≡ refused 6 0
+unfolding partOutcome
+part-turned = refl
+
+pub part-of-empty : partOutcome [] 1 0 ≡ refused 6 0
+unfolding partOutcome
+part-of-empty = refl
+
+-- "4,097 passes": 1 comes before 6
+pub part-too-long-first : partOutcome (replicate 4097 97) 0 0 ≡ refused 1 0
+unfolding partOutcome
+part-too-long-first = refl
+
+-- "Taking any period as the unit: aaaa then has two paths for one split." Its unit is 1.
+pub smallest-of-aaaa : smallestPeriod (97 ∷ 97 ∷ 97 ∷ 97 ∷ []) ≡ 1
+unfolding smallestPeriod
+smallest-of-aaaa = refl
+
+-- a block of exactly two turns is one, and three turns are more than it has
+pub twice-is-a-block : repetition? anyPeriod 2 (97 ∷ 98 ∷ 97 ∷ 98 ∷ []) ≡ true
+unfolding repetition? smallestPeriod
+twice-is-a-block = refl
+
+pub twice-is-not-thrice : repetition? anyPeriod 3 (97 ∷ 98 ∷ 97 ∷ 98 ∷ []) ≡ false
+unfolding repetition? smallestPeriod
+twice-is-not-thrice = refl
+
+pub prefix-periods-of-aabaabaa : prefixPeriods aabaabaa 8 ≡ 1 ∷ 1 ∷ 3 ∷ 3 ∷ 3 ∷ 3 ∷ 3 ∷ 3 ∷ []
+unfolding prefixPeriods smallestPeriod
+prefix-periods-of-aabaabaa = refl
