@@ -7,9 +7,11 @@ use native.Mathlib.Omega.{arith}
 use native.Mathlib.Decide.{decLt}
 use lib.Dec.{T, eqb, eqb→eq, lit≤}
 use Rattle.answers.specs.declared.Code.{Code}
+use Rattle.answers.specs.declared.Counted.{Counted}
+use Rattle.answers.specs.declared.Counted.the-variants.{Count, Refused}
 use Rattle.answers.specs.declared.Refusal.{Refusal}
 use Rattle.answers.specs.declared.Refusal.the-variants.{TooLong, NoFactorization, BadEnd, NotRepetition, Unfinished, BadPosition, TooFewPlaces, BadChoice, ShortTable, OddPath, NotPlan}
-use Rattle.answers.specs.Outcome.{Outcome, refused, codeOf, refusal}
+use Rattle.answers.specs.Outcome.{codeOf, refusal, countedView}
 
 -- how many refusals there are
 abbrev pub refusals : ℕ
@@ -99,3 +101,10 @@ index-zero BadChoice a b = refl
 index-zero ShortTable a b = refl
 index-zero OddPath a b = refl
 index-zero NotPlan a b = refl
+
+-- an answer that gives one number is determined by what it returns
+pub counted-injective : (x y : Counted) → countedView x ≡ countedView y → x ≡ y
+counted-injective (Count m) (Count n) e = let f : m ≡ n = cc in ap Count f
+counted-injective (Count m) (Refused s) e = absurd (let z : _≡_ {A = ℕ} 0 1 = cc in omega arith)
+counted-injective (Refused r) (Count n) e = absurd (let z : _≡_ {A = ℕ} 0 1 = cc in omega arith)
+counted-injective (Refused r) (Refused s) e = ap Refused (refusal-injective r s e)

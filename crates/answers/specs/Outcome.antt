@@ -1,7 +1,9 @@
 -- What a call answers, in document 01's numbers: "The answer to any call ... is a full result or one of eleven numbered refusals."
-use mathlib.Core.List.{List}
+use mathlib.Core.List.{List, [], _∷_}
 use Prim.Native.Nat.{ℕ}
 use Rattle.answers.specs.declared.Code.{Code}
+use Rattle.answers.specs.declared.Counted.{Counted}
+use Rattle.answers.specs.declared.Counted.the-variants.{Count, Refused}
 use Rattle.answers.specs.declared.Refusal.{Refusal}
 use Rattle.answers.specs.declared.Refusal.the-variants.{TooLong, NoFactorization, BadEnd, NotRepetition, Unfinished, BadPosition, TooFewPlaces, BadChoice, ShortTable, OddPath, NotPlan}
 
@@ -30,3 +32,18 @@ codeOf NotPlan = record { 0 = 11; 1 = 0 }
 
 abbrev pub refusal : Refusal → Outcome
 refusal r = refused (codeOf r .0) (codeOf r .1)
+
+-- the answer of a call that gives one number
+abbrev pub countedView : Counted → Outcome
+countedView (Count n) = accepted (n ∷ [])
+countedView (Refused r) = refusal r
+
+-- a later answer, where nothing was refused before
+abbrev pub unlessRefused : Outcome → Outcome → Outcome
+unlessRefused (accepted v) o = o
+unlessRefused (refused n i) o = refused n i
+
+-- a table as it was, t, where a call refuses, and else as it leaves it, u
+abbrev pub tableUnless : Outcome → List ℕ → List ℕ → List ℕ
+tableUnless (accepted v) t u = u
+tableUnless (refused n i) t u = t

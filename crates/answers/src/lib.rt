@@ -32,6 +32,12 @@ pub enum Refusal {
     NotPlan,
 }
 
+// The answer of a call that gives one number: how many runs, nodes, blocks or bytes there are.
+pub enum Counted {
+    Count(u32),
+    Refused(Refusal),
+}
+
 // What document 01 says a refusal returns: its number and its index.
 pub struct Code(pub u32, pub u32);
 

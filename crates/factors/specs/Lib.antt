@@ -1,0 +1,3 @@
+pub mod Factorization
+pub mod Verdict
+pub mod Table
