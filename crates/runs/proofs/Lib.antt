@@ -1,0 +1,9 @@
+pub mod InPlace
+pub mod Entries
+pub mod Listed
+pub mod Rows
+pub mod Records
+pub mod WhiteNodes
+pub mod CallClaims
+pub mod LookUps
+pub mod Examples

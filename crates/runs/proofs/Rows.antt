@@ -1,0 +1,227 @@
+-- Laws of the table of runs that its code goes by: the tests of `run?` one after the other, one more boundary, one more record, what a table holds after the
+-- records or the counts are stored. By unfolding the definitions and induction on them. Assumes nothing.
+use mathlib.Core.Path.{_≡_, refl, sym, ap, ap₂, _∙_}
+use mathlib.Core.Logic.{_≢_}
+use mathlib.Core.Bool.{Bool, true, false, not, cond, _&&_}
+use mathlib.Core.List.{List, [], _∷_, _++_, append-assoc, append-nil}
+use Prim.Native.Nat.{ℕ, zero, suc, _+_, _-_, _*_, _≤_, _<_}
+use native.Mathlib.Omega.{arith}
+use native.Mathlib.Numerals.{add-one}
+use native.Mathlib.Nat.{add-zero, zero-add}
+use borrow.Author.Tests.{le-leb, lt-leb, eq-eqb, ne-eqb}
+use lib.Dec.{leb, eqb}
+use lib.ListN.{length, getD, set, drop, length-append, length-drop, List·getD-append}
+use lib.Seq.{sets, sets-eq, take-take, drop-cons, set-at}
+use Rattle.answers.specs.Outcome.{limit}
+use Rattle.periods.specs.Period.{part, smallestPeriod, repetition?, anyPeriod, prefixPeriods}
+use Rattle.periods.proofs.InPlace.{placed-part}
+use Rattle.periods.proofs.Claims.{prefix-periods-length, prefix-periods-at}
+use Rattle.periods.proofs.PartClaims.{repetition-any}
+use Rattle.runs.specs.Run.{Row}
+use Rattle.runs.specs.Table.{left?, right?, run?, runBetween, rowsAt, rowsBefore, runsOf, stride, flat}
+use Rattle.runs.specs.Inner.{unitsAt, unitsBefore, rowsLeft, countsOf}
+
+-- ---- the tests of run?, in order
+
+module _ (w : List ℕ) (a b p : ℕ) (after : a < b) (within : b ≤ length w) (is : p ≡ smallestPeriod (part w a b)) where
+  long : length (part w a b) ≡ b - a
+  long = placed-part w a b within .long
+
+  turns-test : repetition? anyPeriod 2 (part w a b) ≡ leb (2 * p) (b - a)
+  turns-test = repetition-any 2 (part w a b) (omega (arith, long)) ∙ ap₂ (λ (x y : ℕ). leb (2 * x) y) (sym is) long
+
+  -- too short for two turns
+  pub run-short : b - a < 2 * p → false ≡ run? w a b
+  unfolding run?
+  run-short h = rw (turns-test ∙ lt-leb (2 * p) (b - a) h) refl
+
+  -- it can be lengthened to the left
+  pub run-lengthened : left? w a p ≡ false → false ≡ run? w a b
+  unfolding run?
+  run-lengthened h = rw (← is, h) (sym (and-false (repetition? anyPeriod 2 (part w a b))))
+    where
+      and-false : (x : Bool) → (x && false) ≡ false
+      and-false true = refl
+      and-false false = refl
+
+  -- else the test to the right decides
+  pub run-right : 2 * p ≤ b - a → left? w a p ≡ true → right? w b p ≡ run? w a b
+  unfolding run?
+  run-right h k = rw (← is, turns-test ∙ le-leb (2 * p) (b - a) h, k) refl
+
+pub left-none : (w : List ℕ) (a p : ℕ) → a ≤ 0 → left? w a p ≡ true
+left-none w zero p h = refl
+left-none w (suc a) p h = absurd (omega arith)
+
+left-test : (w : List ℕ) (a p : ℕ) → 0 < a → left? w a p ≡ not (eqb (getD w (a - 1) 0) (getD w (a - 1 + p) 0))
+left-test w zero p h = absurd (omega arith)
+left-test w (suc a) p h = let e : suc a - 1 ≡ a = omega arith in rw e refl
+
+pub left-agrees : (w : List ℕ) (a p : ℕ) → 0 < a → getD w (a - 1) 0 ≡ getD w (a - 1 + p) 0 → left? w a p ≡ false
+left-agrees w a p h e = left-test w a p h ∙ ap not (eq-eqb (getD w (a - 1) 0) (getD w (a - 1 + p) 0) e)
+
+pub left-differs : (w : List ℕ) (a p : ℕ) → 0 < a → getD w (a - 1) 0 ≢ getD w (a - 1 + p) 0 → left? w a p ≡ true
+left-differs w a p h e = left-test w a p h ∙ ap not (ne-eqb (getD w (a - 1) 0) (getD w (a - 1 + p) 0) e)
+
+pub right-end : (w : List ℕ) (b p : ℕ) → b ≡ length w → right? w b p ≡ true
+right-end w b p e = rw (eq-eqb b (length w) e) refl
+
+pub right-test : (w : List ℕ) (b p : ℕ) → b ≢ length w → right? w b p ≡ not (eqb (getD w b 0) (getD w (b - p) 0))
+right-test w b p e = rw (ne-eqb b (length w) e) refl
+
+-- ---- the units after a boundary
+
+pub part-long : (w : List ℕ) (a b : ℕ) → b ≤ length w → length (part w a b) ≡ b - a
+part-long w a b h = placed-part w a b h .long
+
+-- what `periods::inner::units` leaves, for the part after boundary a
+pub units-left : (w u : List ℕ) (a : ℕ)
+    → prefixPeriods (part w a (length w)) (length (part w a (length w))) ++ drop (length (part w a (length w))) u ≡ unitsAt w a u
+units-left w u a = ap (λ (n : ℕ). prefixPeriods (part w a (length w)) n ++ drop n u) (part-long w a (length w) (omega arith))
+
+pub units-place : (w u : List ℕ) (a b : ℕ) → a < b → b ≤ length w → getD (unitsAt w a u) (b - a - 1) 0 ≡ smallestPeriod (part w a b)
+units-place w u a b h k =
+    let e : suc (b - a - 1) ≡ b - a = omega arith in
+    List·getD-append (prefixPeriods (part w a (length w)) (length w - a)) (drop (length w - a) u) 0 (b - a - 1) (omega (arith, prefix-periods-length (part w a (length w)) (length w - a)))
+    ∙ prefix-periods-at (part w a (length w)) (length w - a) (b - a - 1) (omega arith)
+    ∙ rw e (ap smallestPeriod (take-take (b - a) (length w - a) (drop a w) (omega arith)))
+
+-- ---- one more boundary
+
+rows-step : (w : List ℕ) (a b : ℕ) → a < b → rowsAt w a (b - a) ≡ rowsAt w a (b - a - 1) ++ runBetween w a b
+unfolding rowsAt
+rows-step w a b h = go (b - a - 1) (omega arith) (omega arith)
+  where
+    go : (d : ℕ) → b - a ≡ suc d → a + suc d ≡ b → rowsAt w a (b - a) ≡ rowsAt w a d ++ runBetween w a b
+    go d e f = ap (rowsAt w a) e ∙ ap (λ (x : ℕ). rowsAt w a d ++ runBetween w a x) f
+
+pub rows-none : (w : List ℕ) (a : ℕ) → rowsAt w a (a + 1 - a - 1) ≡ []
+unfolding rowsAt
+rows-none w a = let e : a + 1 - a - 1 ≡ 0 = omega arith in rw e refl
+
+pub rows-skip : (w : List ℕ) (a b : ℕ) → a < b → run? w a b ≡ false → rowsAt w a (b + 1 - a - 1) ≡ rowsAt w a (b - a - 1)
+unfolding runBetween
+rows-skip w a b h t =
+    let e : b + 1 - a - 1 ≡ b - a = omega arith in
+    rw e (rows-step w a b h ∙ ap (λ (x : List Row). rowsAt w a (b - a - 1) ++ x) (rw t refl) ∙ append-nil (rowsAt w a (b - a - 1)))
+
+pub rows-add : (w : List ℕ) (a b p : ℕ) → a < b → p ≡ smallestPeriod (part w a b) → run? w a b ≡ true
+    → rowsAt w a (b + 1 - a - 1) ≡ rowsAt w a (b - a - 1) ++ (record { first = a + 1; last = b; period = p } ∷ [])
+unfolding runBetween
+rows-add w a b p h q t =
+    let e : b + 1 - a - 1 ≡ b - a = omega arith in
+    rw e (rows-step w a b h ∙ ap (λ (x : List Row). rowsAt w a (b - a - 1) ++ x) (rw (t, q, add-one a) refl))
+
+-- at most one run ends at each boundary
+pub rows-at-most : (w : List ℕ) (a d : ℕ) → length (rowsAt w a d) ≤ d
+unfolding rowsAt runBetween
+rows-at-most w a zero = omega arith
+rows-at-most w a (suc d) =
+    omega (arith, rows-at-most w a d, length-append (rowsAt w a d) (runBetween w a (a + suc d)), one (run? w a (a + suc d)))
+  where
+    one : (t : Bool) → length {A = Row} (cond t (record { first = suc a; last = a + suc d; period = smallestPeriod (part w a (a + suc d)) } ∷ []) []) ≤ 1
+    one true = omega arith
+    one false = omega arith
+
+pub rows-before-at-most : (w : List ℕ) (a : ℕ) → length w ≤ limit → length (rowsBefore w a) ≤ a * limit
+unfolding rowsBefore
+rows-before-at-most w zero h = omega arith
+rows-before-at-most w (suc a) h =
+    omega (arith, rows-before-at-most w a h, length-append (rowsBefore w a) (rowsAt w a (length w - a)), rows-at-most w a (length w - a))
+
+pub runs-at-most : (w : List ℕ) → length w ≤ limit → length (runsOf w) ≤ limit * limit
+unfolding runsOf
+runs-at-most w h = omega (arith, rows-before-at-most w (length w) h)
+
+-- ---- stores
+
+pub flat-append : (xs ys : List Row) → flat (xs ++ ys) ≡ flat xs ++ flat ys
+flat-append [] ys = refl
+flat-append (x ∷ xs) ys = ap (λ (l : List ℕ). x .first ∷ x .last ∷ x .period ∷ l) (flat-append xs ys)
+
+pub length-flat : (xs : List Row) → length (flat xs) ≡ stride * length xs
+length-flat [] = refl
+length-flat (x ∷ xs) = omega (arith, length-flat xs)
+
+pub sets-append : (t : List ℕ) (i : ℕ) (xs ys : List ℕ) → sets t i (xs ++ ys) ≡ sets (sets t i xs) (i + length xs) ys
+sets-append t i [] ys = ap (λ (k : ℕ). sets t k ys) (sym (add-zero i))
+sets-append t i (x ∷ xs) ys =
+    let e : suc i + length xs ≡ i + suc (length xs) = omega arith in
+    sets-append (set t i x) (suc i) xs ys ∙ ap (λ (k : ℕ). sets (sets (set t i x) (suc i) xs) k ys) e
+
+pub sets-none : (i : ℕ) (vs : List ℕ) → sets [] i vs ≡ []
+sets-none i [] = refl
+sets-none i (v ∷ vs) = sets-none (suc i) vs
+
+-- the records of more rows, stored behind those of the first
+pub put-rows : (t : List ℕ) (i : ℕ) (xs ys : List Row) → sets t (stride * i) (flat (xs ++ ys)) ≡ sets (sets t (stride * i) (flat xs)) (stride * (i + length xs)) (flat ys)
+put-rows t i xs ys =
+    let e : stride * i + length (flat xs) ≡ stride * (i + length xs) = omega (arith, length-flat xs) in
+    ap (sets t (stride * i)) (flat-append xs ys) ∙ sets-append t (stride * i) (flat xs) (flat ys) ∙ ap (λ (k : ℕ). sets (sets t (stride * i) (flat xs)) k (flat ys)) e
+
+-- where there is room, the records stand at the front and the rest stays
+pub sets-front : (t vs : List ℕ) → length vs ≤ length t → sets t 0 vs ≡ vs ++ drop (length vs) t
+sets-front t vs h = sets-eq vs t 0 (omega arith) ∙ ap (λ (k : ℕ). vs ++ drop k t) (zero-add (length vs))
+
+-- what is stored in no places
+pub stored-nowhere : (t e vs : List ℕ) (i : ℕ) → e ≡ sets [] i vs → e ++ t ≡ t
+stored-nowhere t e vs i h = ap (λ (x : List ℕ). x ++ t) (h ∙ sets-none i vs)
+
+-- ---- one more boundary done
+
+pub before-none : (w : List ℕ) → rowsBefore w 0 ≡ []
+unfolding rowsBefore
+before-none w = refl
+
+pub before-more : (w : List ℕ) (a : ℕ) → rowsBefore w (a + 1) ≡ rowsBefore w a ++ rowsAt w a (length w - a)
+unfolding rowsBefore
+before-more w a = rw (add-one a) refl
+
+pub count-more : (w : List ℕ) (a : ℕ) → length (rowsBefore w (a + 1)) ≡ length (rowsBefore w a) + length (rowsAt w a (length w - a))
+count-more w a = ap length (before-more w a) ∙ length-append (rowsBefore w a) (rowsAt w a (length w - a))
+
+pub units-before-none : (w u : List ℕ) → unitsBefore w 0 u ≡ u
+unfolding unitsBefore
+units-before-none w u = refl
+
+pub units-before-more : (w u : List ℕ) (a : ℕ) → unitsBefore w (a + 1) u ≡ unitsAt w a (unitsBefore w a u)
+unfolding unitsBefore
+units-before-more w u a = rw (add-one a) refl
+
+-- the table with the records of one more boundary behind those of the boundaries below it
+pub table-more : (w t u v : List ℕ) (a count : ℕ) → count ≡ length (rowsBefore w a) → u ≡ sets t 0 (flat (rowsBefore w a))
+    → v ≡ sets u (stride * count) (flat (rowsAt w a (length w - a))) → v ≡ sets t 0 (flat (rowsBefore w (a + 1)))
+table-more w t u v a count h k e =
+    e ∙ rw (k, h, before-more w a) (ap (λ (i : ℕ). sets (sets t 0 (flat (rowsBefore w a))) (stride * i) (flat (rowsAt w a (length w - a)))) (sym (zero-add (length (rowsBefore w a))))
+    ∙ sym (put-rows t 0 (rowsBefore w a) (rowsAt w a (length w - a))))
+
+pub rows-left-none : (w t : List ℕ) → rowsLeft w 0 t ≡ t
+unfolding rowsLeft
+rows-left-none w t = refl
+
+pub rows-left-more : (w t : List ℕ) (a : ℕ) → rowsLeft w (a + 1) t ≡ sets (rowsLeft w a t) 0 (flat (rowsAt w a (length w - a)))
+unfolding rowsLeft
+rows-left-more w t a = rw (add-one a) refl
+
+-- ---- the counts
+
+pub counts-none : (w t : List ℕ) → t ≡ countsOf w 0 ++ drop 0 t
+unfolding countsOf
+counts-none w t = refl
+
+pub length-counts : (w : List ℕ) (a : ℕ) → length (countsOf w a) ≡ a
+unfolding countsOf
+length-counts w zero = refl
+length-counts w (suc a) = omega (arith, length-append (countsOf w a) (length (rowsBefore w a) ∷ []), length-counts w a)
+
+-- the table of counts is as long as it was
+pub counts-long : (w t : List ℕ) (a : ℕ) → a ≤ length t → length (countsOf w a ++ drop a t) ≡ length t
+counts-long w t a h = omega (arith, length-append (countsOf w a) (drop a t), length-counts w a, length-drop a t)
+
+pub counts-more : (w t : List ℕ) (a count : ℕ) → a < length t → count ≡ length (rowsBefore w a) → set (countsOf w a ++ drop a t) a count ≡ countsOf w (a + 1) ++ drop (a + 1) t
+unfolding countsOf
+counts-more w t a count h e =
+    ap (λ (l : List ℕ). set (countsOf w a ++ l) a count) (drop-cons t a 0 h)
+    ∙ set-at (countsOf w a) (getD t a 0) (drop (suc a) t) count a (length-counts w a)
+    ∙ sym (append-assoc (countsOf w a) (count ∷ []) (drop (suc a) t))
+    ∙ rw (add-one a, e) refl

@@ -1,0 +1,96 @@
+-- `runs::inner::number_of` meets its contract: the records in the lent table are the runs after the boundary, and the count at it numbers them. Assumes nothing.
+use mathlib.Core.Path.{_≡_, ap, _∙_}
+use mathlib.Core.List.{List}
+use Prim.Native.Nat.{_-_, _≤_}
+use native.Mathlib.Omega.{arith}
+use borrow.Author.Needs.{needs}
+use lib.ListN.{length}
+use Rattle.answers.specs.Outcome.{limit}
+use Rattle.runs.specs.Run.{Row}
+use Rattle.runs.specs.Table.{rowsAt}
+use Rattle.runs.specs.Inner.{withPeriod}
+use Rattle.runs.proofs.Rows.{rows-at-most, rows-before-at-most}
+use Rattle.runs.proofs.Records.{records-left, period-place-most, number-none, number-some}
+use Rattle.runs.proofs.inner.number_of.Statement.{statement}
+use Rattle.runs.proofs.inner.number_of.Tie as tie
+
+-- the runs after the boundary, and how many there are at most
+abbrev rows-of : tie.After-with-period → List Row
+rows-of c = rowsAt (c .before .before .before .before .before .before .before .before .before .before .before .before .before .args .w .now) (c .before .before .before .before .before .before .before .before .before .before .before .before .before .args .a) (length (c .before .before .before .before .before .before .before .before .before .before .before .before .before .args .w .now) - c .before .before .before .before .before .before .before .before .before .before .before .before .before .args .a)
+
+rows-most : (c : tie.After-with-period) → length (rows-of c) ≤ length (c .before .before .before .before .before .before .before .before .before .before .before .before .before .args .w .now)
+rows-most c = omega (arith, rows-at-most (c .before .before .before .before .before .before .before .before .before .before .before .before .before .args .w .now) (c .before .before .before .before .before .before .before .before .before .before .before .before .before .args .a) (length (c .before .before .before .before .before .before .before .before .before .before .before .before .before .args .w .now) - c .before .before .before .before .before .before .before .before .before .before .before .before .before .args .a))
+
+-- the place that was found is that among them
+place : (c : tie.After-with-period) → c .with-period .result ≡ withPeriod (c .before .before .before .before .before .before .before .before .before .before .before .before .before .args .period) (rows-of c)
+place c =
+    let r = c .before .before .before .before .before .before .rows-at in
+    c .with-period .ensures
+    ∙ ap (withPeriod (c .before .before .before .before .before .before .before .before .before .before .before .before .before .args .period)) (records-left (rows-of c) (c .before .before .before .before .before .before .before .before .before .before .before .before .before .args .rows .now) _ (r .result) (r .ensures .0) (r .ensures .1 .0) (omega (arith, rows-most c)))
+
+place-most : (c : tie.After-with-period) → c .with-period .result ≤ limit
+place-most c = omega (arith, place c, period-place-most (c .before .before .before .before .before .before .before .before .before .before .before .before .before .args .period) (rows-of c), rows-most c)
+
+rows-at-requires : tie.Need-rows-at-requires
+rows-at-requires c κs = search needs
+
+with-period-requires : tie.Need-with-period-requires
+with-period-requires c κs =
+    let g = c .before .before .before .before .before .before .before .before .before .before .before .before .args in
+    let r = c .before .before .before .before .before .rows-at in (
+      omega (arith, r .ensures .0, r .kept .1 .1 .1 .0, rows-at-most (g .w .now) (g .a) (length (g .w .now) - g .a)),
+      omega (arith, r .ensures .0, rows-at-most (g .w .now) (g .a) (length (g .w .now) - g .a)),
+    )
+
+same-length : tie.Need-same-length
+same-length c = search needs
+
+same-length-2 : tie.Need-same-length-2
+same-length-2 c = search needs
+
+returns : tie.Need-returns
+returns c =
+    let g = c .before .before .before .before .before .before .before .before .before .before .before .before .before .before .args in
+    let r = c .before .before .before .before .before .before .before .rows-at in
+    (number-none (g .w .now) (g .a) (g .period) (c .before .with-period .result) (place (c .before)) (c .if1 .taken), (r .ensures .1 .1, r .ensures .1 .0))
+
+mul-result : tie.Need-mul-result
+mul-result c = search needs
+
+shared-slice-read-result : tie.Need-shared-slice-read-result
+shared-slice-read-result c = search needs
+
+cast-result : tie.Need-cast-result
+cast-result c = omega (arith, place-most (c .before .before))
+
+add-result : tie.Need-add-result
+add-result c = omega (arith, place-most (c .before .before), c .before .before .before .before .before .before .before .before .before .before .before .before .before .before .before .pre .5, rows-before-at-most (c .before .before .before .before .before .before .before .before .before .before .before .before .before .before .before .args .w .now) (c .before .before .before .before .before .before .before .before .before .before .before .before .before .before .before .args .a) (omega arith))
+
+same-length-3 : tie.Need-same-length-3
+same-length-3 c = search needs
+
+same-length-4 : tie.Need-same-length-4
+same-length-4 c = search needs
+
+returns-2 : tie.Need-returns-2
+returns-2 c =
+    let g = c .before .before .before .before .before .before .before .before .before .before .before .before .before .before .before .args in
+    let r = c .before .before .before .before .before .before .before .before .rows-at in
+    (number-some (g .w .now) (g .a) (g .period) (c .before .before .with-period .result) _ (place (c .before .before)) (c .before .if1 .left) (c .before .before .before .before .before .before .before .before .before .before .before .before .before .before .before .pre .5), (r .ensures .1 .1, r .ensures .1 .0))
+
+pub number-of-spec : {M : Type 1} → statement M
+number-of-spec =
+    tie.close
+    (tie.spec
+    rows-at-requires
+    with-period-requires
+    same-length
+    same-length-2
+    returns
+    mul-result
+    shared-slice-read-result
+    cast-result
+    add-result
+    same-length-3
+    same-length-4
+    returns-2)

@@ -1,0 +1,181 @@
+-- `runs::inner::rows_at` meets its contract: its loop keeps that the records of the runs that end before boundary b are counted and stored. Assumes nothing.
+use mathlib.Core.Path.{_≡_, refl, sym, ap, _∙_}
+use mathlib.Core.List.{List, [], _∷_, _++_}
+use Prim.Native.Nat.{ℕ, _+_, _-_, _*_, _<_, _≤_}
+use native.Mathlib.Omega.{arith}
+use borrow.Author.Needs.{needs}
+use borrow.Author.Tests.{not-true, not-false}
+use lib.ListN.{length, getD, length-append}
+use lib.Seq.{sets, length-sets}
+use Rattle.periods.specs.Period.{part, smallestPeriod}
+use Rattle.runs.specs.Run.{Row}
+use Rattle.runs.specs.Table.{rowsAt, stride, flat}
+use Rattle.runs.specs.Inner.{unitsAt}
+use Rattle.runs.proofs.Listed.{part-smallest}
+use Rattle.runs.proofs.Rows.{part-long, units-left, units-place, rows-none, rows-skip, rows-add, rows-at-most, put-rows}
+use Rattle.runs.proofs.inner.rows_at.Statement.{statement}
+use Rattle.runs.proofs.inner.rows_at.Tie as tie
+
+abbrev Inv-loop : tie.InvT-loop
+Inv-loop w a units table₀ at n count₀ b₀ table count b = (a < b) × (b ≤ n + 1) × (count ≡ at + length (rowsAt w a (b - a - 1))) × (table ≡ sets table₀ (stride * at) (flat (rowsAt w a (b - a - 1))))
+
+abbrev μ-loop : tie.MeasureT-loop
+μ-loop w a units table₀ at n count₀ b₀ table count b = n + 1 - b
+
+-- the units after the call
+units-are : (c : tie.At-loop Inv-loop μ-loop) → c .before .before .before .units .last .1 .0 ≡ unitsAt (c .before .before .before .before .before .before .before .before .before .args .w .now) (c .before .before .before .before .before .before .before .before .before .args .a) (c .before .before .before .before .before .before .before .before .before .args .units .now)
+units-are c = c .before .before .before .units .ensures ∙ units-left (c .before .before .before .before .before .before .before .before .before .args .w .now) (c .before .before .before .before .before .before .before .before .before .args .units .now) (c .before .before .before .before .before .before .before .before .before .args .a)
+
+units-length : (c : tie.At-loop Inv-loop μ-loop) → length (c .before .before .before .units .last .1 .0) ≡ length (c .before .before .before .before .before .before .before .before .before .args .units .now)
+units-length c = c .before .before .before .units .kept .1 .0
+
+-- what is read is the smallest period of the part up to boundary b
+unit-read : (c : tie.At-loop Inv-loop μ-loop) → c .before .before .before .before .before .before .before .before .before .args .a < c .loop .b → c .loop .b ≤ length (c .before .before .before .before .before .before .before .before .before .args .w .now)
+    → getD (c .before .before .before .units .last .1 .0) (c .loop .b - c .before .before .before .before .before .before .before .before .before .args .a - 1) 0 ≡ smallestPeriod (part (c .before .before .before .before .before .before .before .before .before .args .w .now) (c .before .before .before .before .before .before .before .before .before .args .a) (c .loop .b))
+unit-read c h k =
+    ap (λ (u : List ℕ). getD u (c .loop .b - c .before .before .before .before .before .before .before .before .before .args .a - 1) 0) (units-are c)
+    ∙ units-place (c .before .before .before .before .before .before .before .before .before .args .w .now) (c .before .before .before .before .before .before .before .before .before .args .units .now) (c .before .before .before .before .before .before .before .before .before .args .a) (c .loop .b) h k
+
+-- it is at most the length of the part
+unit-bound : (c : tie.At-loop Inv-loop μ-loop) → c .before .before .before .before .before .before .before .before .before .args .a < c .loop .b → c .loop .b ≤ length (c .before .before .before .before .before .before .before .before .before .args .w .now)
+    → getD (c .before .before .before .units .last .1 .0) (c .loop .b - c .before .before .before .before .before .before .before .before .before .args .a - 1) 0 ≤ c .loop .b
+unit-bound c h k = omega (arith, unit-read c h k, part-smallest (c .before .before .before .before .before .before .before .before .before .args .w .now) (c .before .before .before .before .before .before .before .before .before .args .a) (c .loop .b) k h .period .fits)
+
+-- the count stays small
+count-bound : (c : tie.At-loop Inv-loop μ-loop) → c .loop .count ≤ c .before .before .before .before .before .before .before .before .before .args .at + (c .loop .b - c .before .before .before .before .before .before .before .before .before .args .a - 1)
+count-bound c = omega (arith, c .loop .inv .2, rows-at-most (c .before .before .before .before .before .before .before .before .before .args .w .now) (c .before .before .before .before .before .before .before .before .before .args .a) (c .loop .b - c .before .before .before .before .before .before .before .before .before .args .a - 1))
+
+sub-units : tie.Need-sub-units Inv-loop μ-loop
+sub-units c = search needs
+
+part-units-start : tie.Need-part-units-start Inv-loop μ-loop
+part-units-start c = search needs
+
+part-units-end : tie.Need-part-units-end Inv-loop μ-loop
+part-units-end c = search needs
+
+units-requires : tie.Need-units-requires Inv-loop μ-loop
+units-requires c κs = omega (arith, part-long (c .before .before .before .before .before .args .w .now) (c .before .before .before .before .before .args .a) (length (c .before .before .before .before .before .args .w .now)) (omega arith))
+
+add-b : tie.Need-add-b Inv-loop μ-loop
+add-b c = omega arith
+
+loop-holds : tie.Need-loop-holds Inv-loop μ-loop
+loop-holds c =
+    let g = c .before .before .before .before .before .before .before .before .args in
+    (omega arith, omega arith, omega (arith, ap length (rows-none (g .w .now) (g .a))), rw (rows-none (g .w .now) (g .a)) refl)
+
+sub-p : tie.Need-sub-p Inv-loop μ-loop
+sub-p c = omega arith
+
+sub-p-2 : tie.Need-sub-p-2 Inv-loop μ-loop
+sub-p-2 c = omega arith
+
+mul-p : tie.Need-mul-p Inv-loop μ-loop
+mul-p c = omega arith
+
+slice-read-p : tie.Need-slice-read-p Inv-loop μ-loop
+slice-read-p c = omega (arith, units-length (c .before .before))
+
+cast-p : tie.Need-cast-p Inv-loop μ-loop
+cast-p c = omega (arith, unit-bound (c .before .before) (omega arith) (omega arith))
+
+is-run-requires : tie.Need-is-run-requires Inv-loop μ-loop
+is-run-requires c κs = (omega arith, omega arith, omega arith, unit-read (c .before .before) (omega arith) (omega arith))
+
+add-b-2 : tie.Need-add-b-2 Inv-loop μ-loop
+add-b-2 c = omega arith
+
+loop-less : tie.Need-loop-less Inv-loop μ-loop
+loop-less c = omega arith
+
+loop-again : tie.Need-loop-again Inv-loop μ-loop
+loop-again c =
+    let g = c .before .before .before .before .before .before .before .before .before .before .before .before .before .args in
+    let l = c .before .before .before .before .loop in
+    let e : rowsAt (g .w .now) (g .a) (l .b + 1 - g .a - 1) ≡ rowsAt (g .w .now) (g .a) (l .b - g .a - 1) = rows-skip (g .w .now) (g .a) (l .b) (omega arith) (sym (c .before .is-run .ensures) ∙ not-true _ (c .if1 .taken)) in
+    (omega arith, omega arith, rw e (l .inv .2), rw e (l .inv .3))
+
+add-put : tie.Need-add-put Inv-loop μ-loop
+add-put c = omega arith
+
+cast-put : tie.Need-cast-put Inv-loop μ-loop
+cast-put c = omega arith
+
+cast-put-2 : tie.Need-cast-put-2 Inv-loop μ-loop
+cast-put-2 c = omega arith
+
+cast-put-3 : tie.Need-cast-put-3 Inv-loop μ-loop
+cast-put-3 c = omega (arith, unit-bound (c .before .before .before .before .before) (omega arith) (omega arith))
+
+put-requires : tie.Need-put-requires Inv-loop μ-loop
+put-requires c κs = omega (arith, count-bound (c .before .before .before .before .before))
+
+add-count : tie.Need-add-count Inv-loop μ-loop
+add-count c = omega (arith, count-bound (c .before .before .before .before .before .before .before .before))
+
+add-b-3 : tie.Need-add-b-3 Inv-loop μ-loop
+add-b-3 c = omega arith
+
+loop-less-2 : tie.Need-loop-less-2 Inv-loop μ-loop
+loop-less-2 c = omega arith
+
+loop-again-2 : tie.Need-loop-again-2 Inv-loop μ-loop
+loop-again-2 c =
+    let g = c .before .before .before .before .before .before .before .before .before .before .before .before .before .before .before .before .before .args in
+    let l = c .before .before .before .before .before .before .before .before .loop in
+    let row : Row = record { first = g .a + 1; last = l .b; period = getD (c .before .before .before .before .before .before .before .before .before .before .before .units .last .1 .0) (l .b - g .a - 1) 0 } in
+    let e : rowsAt (g .w .now) (g .a) (l .b + 1 - g .a - 1) ≡ rowsAt (g .w .now) (g .a) (l .b - g .a - 1) ++ (row ∷ []) =
+    rows-add (g .w .now) (g .a) (l .b) _ (omega arith) (unit-read (c .before .before .before .before .before .before .before .before) (omega arith) (omega arith)) (sym (c .before .before .before .before .before .is-run .ensures) ∙ not-false _ (c .before .before .before .before .if1 .left)) in (
+      omega arith,
+      omega arith,
+      omega (arith, l .inv .2, ap length e, length-append (rowsAt (g .w .now) (g .a) (l .b - g .a - 1)) (row ∷ [])),
+      c .before .before .put .ensures ∙ rw (l .inv .2, l .inv .3, e) (sym (put-rows (g .table .now) (g .at) (rowsAt (g .w .now) (g .a) (l .b - g .a - 1)) (row ∷ []))),
+    )
+
+same-length : tie.Need-same-length Inv-loop μ-loop
+same-length c = units-length (c .before)
+
+same-length-2 : tie.Need-same-length-2 Inv-loop μ-loop
+same-length-2 c = ap length (c .before .loop .inv .3) ∙ length-sets (c .before .before .before .before .before .before .before .before .before .before .args .table .now) (stride * c .before .before .before .before .before .before .before .before .before .before .args .at) (flat (rowsAt (c .before .before .before .before .before .before .before .before .before .before .args .w .now) (c .before .before .before .before .before .before .before .before .before .before .args .a) (c .before .loop .b - c .before .before .before .before .before .before .before .before .before .before .args .a - 1)))
+
+returns : tie.Need-returns Inv-loop μ-loop
+returns c =
+    let g = c .before .before .before .before .before .before .before .before .before .before .args in
+    let l = c .before .loop in
+    let e : l .b - g .a - 1 ≡ length (g .w .now) - g .a = omega arith in
+    (rw e at (l .inv .2), (rw e at (l .inv .3), units-are (c .before)))
+
+pub rows-at-spec : {M : Type 1} → statement M
+rows-at-spec =
+    tie.close
+    (tie.spec
+    Inv-loop
+    μ-loop
+    sub-units
+    part-units-start
+    part-units-end
+    units-requires
+    add-b
+    loop-holds
+    sub-p
+    sub-p-2
+    mul-p
+    slice-read-p
+    cast-p
+    is-run-requires
+    add-b-2
+    loop-less
+    loop-again
+    add-put
+    cast-put
+    cast-put-2
+    cast-put-3
+    put-requires
+    add-count
+    add-b-3
+    loop-less-2
+    loop-again-2
+    same-length
+    same-length-2
+    returns)

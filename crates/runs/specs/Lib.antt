@@ -1,0 +1,4 @@
+pub mod Run
+pub mod Table
+pub mod Calls
+pub mod Inner
