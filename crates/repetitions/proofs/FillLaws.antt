@@ -1,0 +1,237 @@
+-- Laws for filling the working table: the test of a unit, the units in row 2 of the parts after a boundary, the table at the start, after each boundary and at the
+-- end. The general part is factors/proofs/Filling.antt; here the blocks are repetitions. Assumes nothing.
+use mathlib.Core.Path.{_≡_, refl, sym, ap, _∙_, subst}
+use mathlib.Core.Bool.{Bool, true, false, _&&_}
+use mathlib.Core.List.{List, [], _∷_, _++_, append-assoc}
+use Prim.Native.Nat.{ℕ, zero, suc, _+_, _-_, _*_, _≤_, _<_}
+use native.Mathlib.Omega.{arith}
+use native.Mathlib.Numerals.{add-one}
+use borrow.Author.Tests.{le-leb, lt-leb}
+use lib.Dec.{leb}
+use lib.ListN.{length, getD, take, drop, replicate, length-take, length-drop, length-append, length-replicate, getD-replicate, List·getD-append}
+use lib.Seq.{take-take, drop-drop}
+use Rattle.answers.specs.Outcome.{limit}
+use Rattle.periods.specs.Period.{part, smallestPeriod, repetition?, prefixPeriods, anyPeriod, turns}
+use Rattle.periods.proofs.InPlace.{placed-part}
+use Rattle.periods.proofs.Claims.{prefix-periods-length, prefix-periods-at, prefix-periods-rise}
+use Rattle.periods.proofs.PartClaims.{repetition-any}
+use Rattle.factors.specs.Factorization.{Choice, cell}
+use Rattle.factors.specs.Table.{none, rows, sizes, previous, started, spread, filled}
+use Rattle.factors.proofs.TableLaws.{length-started, started-drop}
+use Rattle.factors.proofs.Lent.{lent, lent-length, lent-below, lent-within, lent-above, lent-rest}
+use Rattle.factors.proofs.Filling.{Scanned, scanned-same, scanned-start, scanned-skip, scanned-spread, scanned-rows, length-spread, spread-drop}
+use Rattle.repetitions.specs.Block.{block?}
+use Rattle.repetitions.specs.Fill.{placeOfUnit, longEnough}
+
+pub long-enough : (k n : ℕ) (t : List ℕ) (d : ℕ) → k * getD t (placeOfUnit n d) 0 ≤ d + 1 → longEnough k n t d ≡ true
+long-enough k n t d h = le-leb (k * getD t (placeOfUnit n d) 0) (d + 1) h
+
+pub not-long-enough : (k n : ℕ) (t : List ℕ) (d : ℕ) → d + 1 < k * getD t (placeOfUnit n d) 0 → longEnough k n t d ≡ false
+not-long-enough k n t d h = lt-leb (k * getD t (placeOfUnit n d) 0) (d + 1) h
+
+-- where rows 2 and 3 start, and where they end
+abbrev pub second : ℕ → ℕ
+second n = n + 1 + (n + 1)
+
+abbrev pub third : ℕ → ℕ
+third n = second n + (n + 1)
+
+abbrev pub fourth : ℕ → ℕ
+fourth n = second n + second n
+
+-- a part of a table set to 0
+abbrev pub zeros : List ℕ → ℕ → ℕ → List ℕ
+zeros t a b = replicate (length (take (b - a) (drop a t))) 0
+
+pub zeros-length : (t : List ℕ) (a b : ℕ) → b ≤ length t → length (zeros t a b) ≡ b - a
+zeros-length t a b h = length-replicate (length (take (b - a) (drop a t))) 0 ∙ length-take (b - a) (drop a t) ∙ omega (arith, length-drop a t)
+
+-- the units of the parts after boundary j, as `periods::inner::units` leaves them in row 2
+abbrev pub unitsRow : List ℕ → ℕ → List ℕ → List ℕ
+unitsRow w j r = prefixPeriods (part w j (length w)) (length (part w j (length w))) ++ drop (length (part w j (length w))) r
+
+module _ (w : List ℕ) (j : ℕ) (r : List ℕ) where
+  after : length (part w j (length w)) ≡ length w - j
+  after = placed-part w j (length w) (omega arith) .long
+
+  units-row-length : length w - j ≤ length r → length (unitsRow w j r) ≡ length r
+  units-row-length h =
+      omega (
+        arith,
+        length-append (prefixPeriods (part w j (length w)) (length (part w j (length w)))) (drop (length (part w j (length w))) r),
+        prefix-periods-length (part w j (length w)) (length (part w j (length w))),
+        length-drop (length (part w j (length w))) r,
+        after,
+      )
+
+  units-row-at : (d : ℕ) → j + d < length w → getD (unitsRow w j r) d 0 ≡ smallestPeriod (part w j (j + (d + 1)))
+  units-row-at d h =
+      let e : suc d ≡ j + (d + 1) - j = omega arith in
+      List·getD-append (prefixPeriods (part w j (length w)) (length (part w j (length w)))) (drop (length (part w j (length w))) r) 0 d
+      (omega (arith, prefix-periods-length (part w j (length w)) (length (part w j (length w))), after))
+      ∙ prefix-periods-at (part w j (length w)) (length (part w j (length w))) d (omega (arith, after))
+      ∙ ap smallestPeriod (take-take (suc d) (length w - j) (drop j w) (omega arith) ∙ ap (λ (x : ℕ). take x (drop j w)) e)
+
+-- the smallest periods of longer parts after a boundary are not smaller
+parts-rise : (w : List ℕ) (j a b : ℕ) → a ≤ b → j + b < length w → smallestPeriod (part w j (j + (a + 1))) ≤ smallestPeriod (part w j (j + (b + 1)))
+parts-rise w j a b h k =
+    let s = part w j (length w) in
+    let l : length s ≡ length w - j = placed-part w j (length w) (omega arith) .long in
+    let x : take (a + 1) s ≡ part w j (j + (a + 1)) = prefix-of a (omega arith) in
+    let y : take (b + 1) s ≡ part w j (j + (b + 1)) = prefix-of b k in
+    subst (λ (u : List ℕ). smallestPeriod u ≤ smallestPeriod (part w j (j + (b + 1)))) x
+    (subst (λ (u : List ℕ). smallestPeriod (take (a + 1) s) ≤ smallestPeriod u) y (prefix-periods-rise s (a + 1) (b + 1) (omega arith) (omega arith) (omega arith)))
+  where
+    prefix-of : (d : ℕ) → j + d < length w → take (d + 1) (part w j (length w)) ≡ part w j (j + (d + 1))
+    prefix-of d l =
+        let e : d + 1 ≡ j + (d + 1) - j = omega arith in
+        take-take (d + 1) (length w - j) (drop j w) (omega arith) ∙ ap (λ (x : ℕ). take x (drop j w)) e
+
+-- a table with these units in row 2
+pub laid : List ℕ → ℕ → List ℕ → List ℕ
+laid w j t = lent t (second (length w)) (third (length w)) (unitsRow w j (take (third (length w) - second (length w)) (drop (second (length w)) t)))
+
+-- as the part of the table that was lent leaves it
+pub laid-from : (w : List ℕ) (j : ℕ) (t u : List ℕ) → u ≡ unitsRow w j (take (third (length w) - second (length w)) (drop (second (length w)) t))
+    → lent t (second (length w)) (third (length w)) u ≡ laid w j t
+unfolding laid
+laid-from w j t u e = rw e refl
+
+-- a table whose row 0 is started and whose row 1 is cleared
+pub begun : List ℕ → List ℕ → List ℕ
+begun w t = lent (started (length w) t) (length w + 1) (second (length w)) (zeros (started (length w) t) (length w + 1) (second (length w)))
+
+pub begun-from : (w t s z : List ℕ) → s ≡ started (length w) t → z ≡ zeros s (length w + 1) (second (length w)) → lent s (length w + 1) (second (length w)) z ≡ begun w t
+unfolding begun
+begun-from w t s z e f = rw (f, e) refl
+
+-- ---- the loop
+
+module _ (c : Choice) (w : List ℕ) where
+  -- t₀ is the table when the loop starts, t before boundary j is taken
+  pub record Filling (t₀ : List ℕ) (j : ℕ) (t : List ℕ) : Type 0 where
+    pub scanned : Scanned c (block? anyPeriod turns w) (length w) j t
+    pub long : length t ≡ length t₀
+    pub kept : drop (rows * (length w + 1)) t ≡ drop (rows * (length w + 1)) t₀
+
+  module _ (t : List ℕ) (room : rows * (length w + 1) ≤ length t) where
+    started-long : length (started (length w) t) ≡ length t
+    started-long = length-started (length w) t (omega arith)
+
+    row-fits : length (zeros (started (length w) t) (length w + 1) (second (length w))) ≡ second (length w) - (length w + 1)
+    row-fits = zeros-length (started (length w) t) (length w + 1) (second (length w)) (omega (arith, started-long))
+
+    pub begun-long : length (begun w t) ≡ length t
+    unfolding begun
+    begun-long =
+        lent-length (started (length w) t) (length w + 1) (second (length w)) (zeros (started (length w) t) (length w + 1) (second (length w)))
+        (omega arith) (omega (arith, started-long)) row-fits
+        ∙ started-long
+
+    pub begun-kept : drop (rows * (length w + 1)) (begun w t) ≡ drop (rows * (length w + 1)) t
+    unfolding begun
+    begun-kept =
+        lent-rest (started (length w) t) (length w + 1) (second (length w)) (zeros (started (length w) t) (length w + 1) (second (length w)))
+        (omega arith) (omega (arith, started-long)) row-fits (rows * (length w + 1)) (omega arith)
+        ∙ started-drop (length w) t (rows * (length w + 1)) (omega arith)
+
+    pub filling-starts : Filling (begun w t) 0 (begun w t)
+    unfolding begun
+    filling-starts = record { scanned = scanned-start c (block? anyPeriod turns w) (length w) t (begun w t) below zero-row; long = refl; kept = refl }
+      where
+        below : (i : ℕ) → i ≤ length w → getD (begun w t) i 0 ≡ getD (started (length w) t) i 0
+        below i h =
+            lent-below (started (length w) t) (length w + 1) (second (length w)) (zeros (started (length w) t) (length w + 1) (second (length w)))
+            (omega arith) (omega (arith, started-long)) row-fits i (omega arith)
+
+        zero-row : (i : ℕ) → length w < i → i < second (length w) → getD (begun w t) i 0 ≡ 0
+        zero-row i h k =
+            lent-within (started (length w) t) (length w + 1) (second (length w)) (zeros (started (length w) t) (length w + 1) (second (length w)))
+            (omega arith) (omega (arith, started-long)) row-fits i (omega arith) k
+            ∙ getD-replicate (length (take (second (length w) - (length w + 1)) (drop (length w + 1) (started (length w) t)))) (i - (length w + 1)) 0 0
+            (omega (arith, length-take (second (length w) - (length w + 1)) (drop (length w + 1) (started (length w) t)), length-drop (length w + 1) (started (length w) t), started-long))
+
+  module _ (t₀ t : List ℕ) (j : ℕ) (F : Filling t₀ j t) (room : rows * (length w + 1) ≤ length t₀) (inside : j < length w) where
+    pub filling-skips : getD t j 0 ≡ none → Filling t₀ (j + 1) t
+    filling-skips e =
+        rw (add-one j) record { scanned = scanned-skip c (block? anyPeriod turns w) (length w) j t (omega arith) e (F .scanned); long = F .long; kept = F .kept }
+
+    row-long : length (take (third (length w) - second (length w)) (drop (second (length w)) t)) ≡ third (length w) - second (length w)
+    row-long = length-take (third (length w) - second (length w)) (drop (second (length w)) t) ∙ omega (arith, length-drop (second (length w)) t, F .long)
+
+    units-fit : length (unitsRow w j (take (third (length w) - second (length w)) (drop (second (length w)) t))) ≡ third (length w) - second (length w)
+    units-fit = units-row-length w j (take (third (length w) - second (length w)) (drop (second (length w)) t)) (omega (arith, row-long)) ∙ row-long
+
+    pub laid-long : length (laid w j t) ≡ length t₀
+    unfolding laid
+    laid-long =
+        lent-length t (second (length w)) (third (length w)) (unitsRow w j (take (third (length w) - second (length w)) (drop (second (length w)) t)))
+        (omega arith) (omega (arith, F .long)) units-fit
+        ∙ F .long
+
+    laid-unit : (d : ℕ) → j + d < length w → getD (laid w j t) (placeOfUnit (length w) d) 0 ≡ smallestPeriod (part w j (j + (d + 1)))
+    unfolding laid
+    laid-unit d h =
+        let e : placeOfUnit (length w) d - second (length w) ≡ d = omega arith in
+        lent-within t (second (length w)) (third (length w)) (unitsRow w j (take (third (length w) - second (length w)) (drop (second (length w)) t)))
+        (omega arith) (omega (arith, F .long)) units-fit (placeOfUnit (length w) d) (omega arith) (omega arith)
+        ∙ ap (λ (x : ℕ). getD (unitsRow w j (take (third (length w) - second (length w)) (drop (second (length w)) t))) x 0) e
+        ∙ units-row-at w j (take (third (length w) - second (length w)) (drop (second (length w)) t)) d h
+
+    pub laid-rises : (d e : ℕ) → d ≤ e → e < length w - j → getD (laid w j t) (placeOfUnit (length w) d) 0 ≤ getD (laid w j t) (placeOfUnit (length w) e) 0
+    laid-rises d e h k = omega (arith, laid-unit d (omega arith), laid-unit e (omega arith), parts-rise w j d e h (omega arith))
+
+    laid-same : (i : ℕ) → i < second (length w) → getD (laid w j t) i 0 ≡ getD t i 0
+    unfolding laid
+    laid-same i h =
+        lent-below t (second (length w)) (third (length w)) (unitsRow w j (take (third (length w) - second (length w)) (drop (second (length w)) t)))
+        (omega arith) (omega (arith, F .long)) units-fit i h
+
+    -- the test of the units decides where a block ends
+    laid-decides : (d : ℕ) → j + d < length w → longEnough turns (length w) (laid w j t) d ≡ block? anyPeriod turns w j (j + (d + 1))
+    unfolding repetition?
+    laid-decides d h =
+        let s = part w j (j + (d + 1)) in
+        let l : length s ≡ d + 1 = placed-part w j (j + (d + 1)) (omega arith) .long ∙ omega arith in
+        ap (λ (x : ℕ). leb (turns * x) (d + 1)) (laid-unit d h)
+        ∙ ap (λ (x : ℕ). leb (turns * smallestPeriod s) x) (sym l)
+        ∙ sym (repetition-any turns s (omega arith))
+        ∙ rw (le-leb (j + (d + 1)) (length w) (omega arith)) refl
+
+    spreads : length w ≤ limit → (getD t j 0 ≡ none → ⊥)
+        → Filling t₀ (j + 1) (spread c (length w) j (getD t j 0 + 1) (longEnough turns (length w) (laid w j t)) (length w - j) (laid w j t))
+    unfolding laid
+    spreads small some =
+        rw (add-one j) record {
+          scanned =
+              scanned-spread c (block? anyPeriod turns w) (length w) j (getD t j 0) (laid w j t) (longEnough turns (length w) (laid w j t)) (omega arith) (omega (arith, laid-long)) (omega arith)
+              (laid-same j (omega arith)) some laid-decides (scanned-same c (block? anyPeriod turns w) (length w) j t (laid w j t) laid-same (F .scanned));
+          long = length-spread c (length w) j (getD t j 0 + 1) (longEnough turns (length w) (laid w j t)) (laid w j t) (length w - j) ∙ laid-long;
+          kept = spread-drop c (length w) j (getD t j 0 + 1) (longEnough turns (length w) (laid w j t)) (laid w j t) (length w - j) (rows * (length w + 1)) (omega arith) (omega arith) ∙ laid-kept;
+        }
+      where
+        laid-kept : drop (rows * (length w + 1)) (laid w j t) ≡ drop (rows * (length w + 1)) t₀
+        laid-kept =
+            lent-rest t (second (length w)) (third (length w)) (unitsRow w j (take (third (length w) - second (length w)) (drop (second (length w)) t)))
+            (omega arith) (omega (arith, F .long)) units-fit (rows * (length w + 1)) (omega arith)
+            ∙ F .kept
+
+    pub filling-spreads : length w ≤ limit → (getD t j 0 ≡ none → ⊥) → (l r : List ℕ) → l ≡ laid w j t
+        → r ≡ spread c (length w) j (getD t j 0 + 1) (longEnough turns (length w) l) (length w - j) l → Filling t₀ (j + 1) r
+    filling-spreads small some l r e f = rw (f, e) (spreads small some)
+
+  -- all boundaries taken, and rows 2 and 3 cleared
+  pub filling-done : (t t₀ r : List ℕ) (j : ℕ) → rows * (length w + 1) ≤ length t → length t₀ ≡ length t → drop (rows * (length w + 1)) t₀ ≡ drop (rows * (length w + 1)) t
+      → j ≡ length w → Filling t₀ j r → lent r (second (length w)) (fourth (length w)) (zeros r (second (length w)) (fourth (length w))) ≡ filled c (block? anyPeriod turns w) (length w) t
+  filling-done t t₀ r j room l k at F =
+      let b = block? anyPeriod turns w in
+      let e : fourth (length w) - second (length w) ≡ 2 * (length w + 1) = omega arith in
+      let z : length (take (fourth (length w) - second (length w)) (drop (second (length w)) r)) ≡ 2 * (length w + 1) =
+      length-take (fourth (length w) - second (length w)) (drop (second (length w)) r) ∙ omega (arith, length-drop (second (length w)) r, F .long) in
+      let d : drop (fourth (length w) - second (length w)) (drop (second (length w)) r) ≡ drop (rows * (length w + 1)) t =
+      drop-drop (fourth (length w) - second (length w)) (second (length w)) r ∙ ap (λ (x : ℕ). drop x r) (sums e) ∙ F .kept ∙ k in
+      rw (scanned-rows c b (length w) r (omega (arith, F .long)) (subst (λ (x : ℕ). Scanned c b (length w) x r) at (F .scanned)), z, d)
+      (append-assoc (sizes c b (length w)) (previous c b (length w)) (replicate (2 * (length w + 1)) 0 ++ drop (rows * (length w + 1)) t))
+    where
+      sums : fourth (length w) - second (length w) ≡ 2 * (length w + 1) → second (length w) + (fourth (length w) - second (length w)) ≡ rows * (length w + 1)
+      sums e = omega arith

@@ -1,0 +1,71 @@
+-- The judges accept exactly the factorizations and the encodings of paths, and path of a split gives the run numbers of the one path. By the verdict's claims
+-- (factors/proofs/VerdictClaims.antt) and the correspondence of paths and factorizations. Assumes nothing.
+use mathlib.Core.Path.{_≡_, refl, sym, ap, ap₂, _∙_, subst}
+use mathlib.Core.Logic.{_⊎_, inl, inr, _↔_}
+use mathlib.Core.Bool.{Bool, true, false, cond, _&&_}
+use mathlib.Core.List.{List, [], _∷_, _++_}
+use Prim.Native.Nat.{ℕ, zero, suc, _+_, _-_, _*_, _/_, _%_, _≤_, _<_}
+use native.Mathlib.Omega.{arith}
+use native.Mathlib.Numerals.{add-one}
+use native.Mathlib.Decide.{decLt, decLe, ℕ-discrete}
+use borrow.Author.Tests.{lt-ltb, le-ltb, le-leb, lt-leb, eq-eqb, ne-eqb}
+use lib.Dec.{T, leb, ltb, eqb}
+use lib.ListN.{length, getD, drop, drop-of-length-le}
+use lib.Seq.{drop-cons}
+use Rattle.answers.specs.Outcome.{Outcome, accepted, refused, refusal, limit, unlessRefused, tableUnless}
+use Rattle.periods.specs.Period.{part, smallestPeriod, repetition?, anyPeriod, turns}
+use Rattle.periods.proofs.InPlace.{placed-part}
+use Rattle.periods.proofs.PartClaims.{repetition-any}
+use Rattle.factors.specs.Factorization.{Factorization}
+use Rattle.factors.specs.Verdict.{verdict, verdictFrom, VerdictMeaning}
+use Rattle.factors.proofs.VerdictClaims.{verdict-means, accepted-factorization, verdict-low, verdict-high, verdict-block, verdict-no-block, verdict-finished, verdict-unfinished}
+use Rattle.repetitions.specs.Block.{Block, block?}
+use Rattle.repetitions.specs.Judges.{splitOutcome, SplitJudged, SplitMeaning, too-long, judged}
+use Rattle.repetitions.proofs.Blocks.{block-sound, block-complete, block-up}
+
+-- ---- judge a split
+
+pub split-too-long : (w ends : List ℕ) → limit < length w → refused 1 0 ≡ splitOutcome w ends
+unfolding splitOutcome
+split-too-long w ends h = simp (lt-ltb limit (length w) h)
+
+pub split-judged : (w ends : List ℕ) → length w ≤ limit → verdict (λ k. block? anyPeriod turns w) (length w) ends ≡ splitOutcome w ends
+unfolding splitOutcome
+split-judged w ends h = simp (le-ltb limit (length w) h)
+
+-- CLAIM: judge a split says what document 01 asks
+pub split-means : (w ends : List ℕ) → SplitMeaning w ends (splitOutcome w ends)
+split-means w ends = go (decLt limit (length w))
+  where
+    go : Dec (limit < length w) → SplitMeaning w ends (splitOutcome w ends)
+    go (yes h) = too-long h (sym (split-too-long w ends h))
+    go (no h) =
+        judged (omega arith)
+        (subst (SplitJudged w ends) (split-judged w ends (omega arith))
+        record {
+          verdict-on = verdict-means (λ k. block? anyPeriod turns w) (λ k. Block anyPeriod turns w) (λ k. block-sound anyPeriod turns w) (λ k. block-complete anyPeriod turns w) (length w) ends;
+          accepts = accepted-factorization (block? anyPeriod turns w) (Block anyPeriod turns w) (block-sound anyPeriod turns w) (block-complete anyPeriod turns w) (length w) (block-up anyPeriod turns w) ends;
+        })
+
+pub split-answered : (w ends : List ℕ) (o : Outcome) → o ≡ splitOutcome w ends → (o ≡ splitOutcome w ends) × SplitMeaning w ends o
+split-answered w ends o e = (e, subst (SplitMeaning w ends) (sym e) (split-means w ends))
+
+-- ---- its loop: the verdict on the ends that are left
+
+-- the test of a piece, from its unit
+pub block-test : (w : List ℕ) (i j u : ℕ) → i < j → j ≤ length w → u ≡ smallestPeriod (part w i j) → block? anyPeriod turns w i j ≡ leb (turns * u) (j - i)
+block-test w i j u a b e =
+    let l : length (part w i j) ≡ j - i = placed-part w i j b .long in
+    rw (le-leb j (length w) b) (repetition-any turns (part w i j) (omega (arith, l)) ∙ ap₂ (λ (x y : ℕ). leb (turns * x) y) (sym e) l)
+
+-- what is left of the ends after k of them, whatever the test
+module _ (block? : ℕ → ℕ → ℕ → Bool) (n k i : ℕ) (ends : List ℕ) where
+  pub verdict-more : k < length ends → verdictFrom block? n k i (drop k ends) ≡ verdictFrom block? n k i (getD ends k 0 ∷ drop (k + 1) ends)
+  verdict-more h = ap (verdictFrom block? n k i) (drop-cons ends k 0 h ∙ ap (λ (x : ℕ). getD ends k 0 ∷ drop x ends) (sym (add-one k)))
+
+  pub verdict-none-left : length ends ≤ k → verdictFrom block? n k i (drop k ends) ≡ verdictFrom block? n k i []
+  verdict-none-left h = ap (verdictFrom block? n k i) (drop-of-length-le ends h)
+
+pub verdict-start : (block? : ℕ → ℕ → ℕ → Bool) (n : ℕ) (ends : List ℕ) → verdictFrom block? n 0 0 (drop 0 ends) ≡ verdict block? n ends
+unfolding verdict
+verdict-start block? n ends = refl

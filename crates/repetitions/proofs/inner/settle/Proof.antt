@@ -1,0 +1,84 @@
+-- `repetitions::inner::settle` meets its contract: the answer is handed out from a filled table, whose row of previous boundaries is then cleared. Assumes nothing.
+use mathlib.Core.Path.{ap, _∙_}
+use native.Mathlib.Omega.{arith}
+use borrow.Author.Needs.{needs}
+use lib.ListN.{length}
+use Rattle.periods.specs.Period.{anyPeriod, turns}
+use Rattle.factors.specs.Factorization.{choiceOf}
+use Rattle.repetitions.specs.Block.{block?}
+use Rattle.repetitions.proofs.BestClaims.{filled-long, given-linked, given-outcome, given-ends, given-cleared}
+use Rattle.repetitions.proofs.inner.settle.Statement.{statement}
+use Rattle.repetitions.proofs.inner.settle.Tie as tie
+use Rattle.repetitions.proofs.inner.settle.Reads as reads
+use Rattle.repetitions.proofs.inner.settle.Lts as lts
+use Rattle.factors.proofs.inner.clear.Reads as clear-reads
+use Rattle.repetitions.proofs.inner.fill.Reads as fill-reads
+use Rattle.repetitions.proofs.inner.hand_out.Reads as hand-out-reads
+
+fill-requires : tie.Need-fill-requires
+fill-requires c κs = search needs
+
+hand-out-requires : tie.Need-hand-out-requires
+hand-out-requires c κs =
+    let g = c .before .before .before .before .before .before .before .before .before .args in
+    let e = c .before .before .before .before .fill .ensures in (
+      omega arith,
+      omega (arith, ap length e, filled-long (choiceOf (g .choice)) (block? anyPeriod turns (g .w .now)) (length (g .w .now)) (g .work .now) (omega arith)),
+      given-linked (choiceOf (g .choice)) (block? anyPeriod turns (g .w .now)) (length (g .w .now)) (g .work .now) _ e (omega arith),
+    )
+
+add-row : tie.Need-add-row
+add-row c = search needs
+
+add-two : tie.Need-add-two
+add-two c = search needs
+
+mul-clear : tie.Need-mul-clear
+mul-clear c = search needs
+
+sub-clear : tie.Need-sub-clear
+sub-clear c = search needs
+
+part-clear-start : tie.Need-part-clear-start
+part-clear-start c = search needs
+
+part-clear-end : tie.Need-part-clear-end
+part-clear-end c = search needs
+
+clear-requires : tie.Need-clear-requires
+clear-requires c κs = search needs
+
+same-length : tie.Need-same-length
+same-length c = search needs
+
+same-length-2 : tie.Need-same-length-2
+same-length-2 c = search needs
+
+returns : tie.Need-returns
+returns c =
+    let g = c .before .before .before .before .before .before .before .before .before .before .before .before .before .before .before .before .args in
+    let e = c .before .before .before .before .before .before .before .before .before .before .before .fill .ensures in
+    let h = c .before .before .before .before .before .before .hand-out .ensures in (
+      h .0 ∙ given-outcome (choiceOf (g .choice)) (block? anyPeriod turns (g .w .now)) (length (g .w .now)) (g .work .now) _ e (omega arith) (length (g .ends .now)),
+      (
+        h .1 ∙ given-ends (choiceOf (g .choice)) (block? anyPeriod turns (g .w .now)) (length (g .w .now)) (g .work .now) _ e (omega arith) (g .ends .now),
+        given-cleared (choiceOf (g .choice)) (block? anyPeriod turns (g .w .now)) (length (g .w .now)) (g .work .now) _ e (omega arith) _ (c .before .before .clear .ensures) (omega arith),
+      ),
+    )
+
+pub settle-spec : {M : Type 1} → statement M
+settle-spec =
+    tie.close
+    (tie.spec
+    fill-requires
+    hand-out-requires
+    add-row
+    add-two
+    mul-clear
+    sub-clear
+    part-clear-start
+    part-clear-end
+    clear-requires
+    same-length
+    same-length-2
+    returns)

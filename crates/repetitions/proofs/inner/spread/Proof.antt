@@ -1,0 +1,153 @@
+-- `repetitions::inner::spread` meets its contract: its loop is the fold `spread`, and where it stops early no later unit is short enough, since units never fall.
+-- Assumes nothing.
+use mathlib.Core.Path.{_≡_, ap, _∙_}
+use mathlib.Core.List.{List}
+use Prim.Native.Nat.{ℕ, _+_, _-_, _*_, _<_, _≤_}
+use native.Mathlib.Omega.{arith}
+use lib.ListN.{length, getD}
+use Rattle.periods.specs.Period.{turns}
+use Rattle.factors.specs.Factorization.{choiceOf}
+use Rattle.factors.specs.Table.{spread}
+use Rattle.factors.proofs.Filling.{spread-none, spread-takes, spread-passes, spread-rest, length-spread, spread-past}
+use Rattle.repetitions.specs.Fill.{placeOfUnit, longEnough}
+use Rattle.repetitions.proofs.FillLaws.{long-enough, not-long-enough}
+use Rattle.repetitions.proofs.inner.spread.Statement.{statement}
+use Rattle.repetitions.proofs.inner.spread.Tie as tie
+use Rattle.repetitions.proofs.inner.spread.Reads as reads
+use Rattle.repetitions.proofs.inner.spread.Lts as lts
+use Rattle.factors.proofs.inner.offer.Reads as offer-reads
+
+abbrev Inv-loop : tie.InvT-loop
+Inv-loop work₀ n choice j size row units len d₀ work d = (d ≤ len) × (work ≡ spread (choiceOf choice) n j size (longEnough turns n work₀) d work₀)
+
+abbrev μ-loop : tie.MeasureT-loop
+μ-loop work₀ n choice j size row units len d₀ work d = len - d
+
+long : (c : tie.At-loop Inv-loop μ-loop) → length (c .loop .work) ≡ length (c .before .before .args .work .now)
+long c =
+    let g = c .before .before .args in
+    ap length (c .loop .inv .1) ∙ length-spread (choiceOf (g .choice)) (g .n) (g .j) (g .size) (longEnough turns (g .n) (g .work .now)) (g .work .now) (c .loop .d)
+
+-- the units stay as they were
+unit-read : (c : tie.At-loop Inv-loop μ-loop) → c .loop .d < c .before .before .args .n - c .before .before .args .j → getD (c .loop .work) (placeOfUnit (c .before .before .args .n) (c .loop .d)) 0 ≡ getD (c .before .before .args .work .now) (placeOfUnit (c .before .before .args .n) (c .loop .d)) 0
+unit-read c h =
+    let g = c .before .before .args in
+    ap (λ (t : List ℕ). getD t (placeOfUnit (g .n) (c .loop .d)) 0) (c .loop .inv .1)
+    ∙ spread-past (choiceOf (g .choice)) (g .n) (g .j) (g .size) (longEnough turns (g .n) (g .work .now)) (g .work .now) (c .loop .d) (placeOfUnit (g .n) (c .loop .d)) (omega arith) (omega arith)
+
+add-row : tie.Need-add-row Inv-loop μ-loop
+add-row c = omega arith
+
+add-units : tie.Need-add-units Inv-loop μ-loop
+add-units c = omega arith
+
+sub-len : tie.Need-sub-len Inv-loop μ-loop
+sub-len c = omega arith
+
+loop-holds : tie.Need-loop-holds Inv-loop μ-loop
+loop-holds c = (omega arith, spread-none _ _ _ _ _ _)
+
+add-span : tie.Need-add-span Inv-loop μ-loop
+add-span c = omega arith
+
+mul-span : tie.Need-mul-span Inv-loop μ-loop
+mul-span c = omega arith
+
+slice-read-span : tie.Need-slice-read-span Inv-loop μ-loop
+slice-read-span c = omega (arith, long (c .before .before))
+
+cast-span : tie.Need-cast-span Inv-loop μ-loop
+cast-span c = omega (arith, c .slice-known2 .given (c .before .before .before .before .args .n + 1 + (c .before .before .before .before .args .n + 1) + c .before .before .loop .d))
+
+mul-span-2 : tie.Need-mul-span-2 Inv-loop μ-loop
+mul-span-2 c = omega (arith, c .slice-known2 .given (c .before .before .before .before .args .n + 1 + (c .before .before .before .before .args .n + 1) + c .before .before .loop .d))
+
+same-length : tie.Need-same-length Inv-loop μ-loop
+same-length c = long (c .before .before .before)
+
+returns : tie.Need-returns Inv-loop μ-loop
+returns c =
+    let g = c .before .before .before .before .before .args in
+    let l = c .before .before .before .loop in
+    let e : l .d + (g .n - g .j - l .d) ≡ g .n - g .j = omega arith in
+    l .inv .1
+    ∙ spread-rest (choiceOf (g .choice)) (g .n) (g .j) (g .size) (longEnough turns (g .n) (g .work .now)) (g .work .now) (l .d) (g .n - g .j - l .d)
+    (λ i x y. not-long-enough turns (g .n) (g .work .now) i (omega (arith, c .if1 .taken, unit-read (c .before .before .before) (omega arith), c .before .before .before .before .before .pre .3 (l .d) i x (omega arith))))
+    ∙ ap (λ (x : ℕ). spread (choiceOf (g .choice)) (g .n) (g .j) (g .size) (longEnough turns (g .n) (g .work .now)) x (g .work .now)) e
+
+add-d : tie.Need-add-d Inv-loop μ-loop
+add-d c = omega arith
+
+loop-less : tie.Need-loop-less Inv-loop μ-loop
+loop-less c = omega arith
+
+loop-again : tie.Need-loop-again Inv-loop μ-loop
+loop-again c =
+    let g = c .before .before .before .before .before .before .args in
+    let l = c .before .before .before .before .loop in (
+      omega arith,
+      l .inv .1 ∙ spread-passes (choiceOf (g .choice)) (g .n) (g .j) (g .size) (longEnough turns (g .n) (g .work .now)) (g .work .now) (l .d)
+          (not-long-enough turns (g .n) (g .work .now) (l .d) (omega (arith, c .if2 .taken, unit-read (c .before .before .before .before) (omega arith)))),
+    )
+
+add-m : tie.Need-add-m Inv-loop μ-loop
+add-m c = omega arith
+
+add-offer : tie.Need-add-offer Inv-loop μ-loop
+add-offer c = omega arith
+
+cast-offer : tie.Need-cast-offer Inv-loop μ-loop
+cast-offer c = omega arith
+
+offer-requires : tie.Need-offer-requires Inv-loop μ-loop
+offer-requires c κs = (omega (arith, long (c .before .before .before .before .before)), omega (arith, long (c .before .before .before .before .before)))
+
+loop-less-2 : tie.Need-loop-less-2 Inv-loop μ-loop
+loop-less-2 c = omega arith
+
+loop-again-2 : tie.Need-loop-again-2 Inv-loop μ-loop
+loop-again-2 c =
+    let g = c .before .before .before .before .before .before .before .before .before .before .args in
+    let l = c .before .before .before .before .before .before .before .before .loop in (
+      omega arith,
+      c .before .before .offer .ensures ∙ rw (l .inv .1) (spread-takes (choiceOf (g .choice)) (g .n) (g .j) (g .size) (longEnough turns (g .n) (g .work .now)) (g .work .now) (l .d)
+          (long-enough turns (g .n) (g .work .now) (l .d) (omega (arith, c .before .before .before .before .if2 .left, unit-read (c .before .before .before .before .before .before .before .before) (omega arith))))),
+    )
+
+same-length-2 : tie.Need-same-length-2 Inv-loop μ-loop
+same-length-2 c = long (c .before)
+
+returns-2 : tie.Need-returns-2 Inv-loop μ-loop
+returns-2 c =
+    let g = c .before .before .before .args in
+    let e : c .before .loop .d ≡ g .n - g .j = omega arith in
+    rw e at (c .before .loop .inv .1)
+
+pub spread-spec : {M : Type 1} → statement M
+spread-spec =
+    tie.close
+    (tie.spec
+    Inv-loop
+    μ-loop
+    add-row
+    add-units
+    sub-len
+    loop-holds
+    add-span
+    mul-span
+    slice-read-span
+    cast-span
+    mul-span-2
+    same-length
+    returns
+    add-d
+    loop-less
+    loop-again
+    add-m
+    add-offer
+    cast-offer
+    offer-requires
+    loop-less-2
+    loop-again-2
+    same-length-2
+    returns-2)

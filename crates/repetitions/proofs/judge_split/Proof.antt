@@ -1,0 +1,176 @@
+-- `repetitions::judge_split` meets its contract: its loop keeps that the verdict on the ends that are left is the verdict on all. Assumes nothing.
+use mathlib.Core.Path.{_≡_, sym, ap, _∙_}
+use mathlib.Core.Bool.{Bool}
+use Prim.Native.Nat.{ℕ, _+_, _-_, _*_, _≤_}
+use native.Mathlib.Omega.{arith}
+use native.Mathlib.Numerals.{add-one}
+use borrow.Author.Needs.{needs}
+use borrow.Author.Tests.{le-leb, lt-leb}
+use lib.ListN.{length, getD, drop}
+use Rattle.answers.specs.Outcome.{refused}
+use Rattle.periods.specs.Period.{anyPeriod, turns}
+use Rattle.runs.proofs.Listed.{part-smallest}
+use Rattle.factors.specs.Verdict.{verdictFrom}
+use Rattle.factors.proofs.VerdictClaims.{verdict-low, verdict-high, verdict-block, verdict-no-block, verdict-finished, verdict-unfinished}
+use Rattle.repetitions.specs.Block.{block?}
+use Rattle.repetitions.specs.Judges.{splitOutcome}
+use Rattle.repetitions.proofs.JudgeClaims.{split-too-long, split-judged, split-answered, block-test, verdict-more, verdict-none-left, verdict-start}
+use Rattle.repetitions.proofs.judge_split.Statement.{statement}
+use Rattle.repetitions.proofs.judge_split.Tie as tie
+use Rattle.repetitions.proofs.judge_split.Reads as reads
+use Rattle.repetitions.proofs.judge_split.Lts as lts
+use Rattle.periods.proofs.smallest_period.Reads as smallest-period-reads
+
+abbrev Inv-loop : tie.InvT-loop
+Inv-loop w ends n before₀ k₀ before k = (k ≤ before) × (before ≤ n) × (k ≤ length ends) × (verdictFrom (λ m. block? anyPeriod turns w) n k before (drop k ends) ≡ splitOutcome w ends)
+
+abbrev μ-loop : tie.MeasureT-loop
+μ-loop w ends n before₀ k₀ before k = length ends - k
+
+returns : tie.Need-returns Inv-loop μ-loop
+returns c = split-answered (c .before .before .before .args .w .now) (c .before .before .before .args .ends .now) _ (split-too-long (c .before .before .before .args .w .now) (c .before .before .before .args .ends .now) (c .if1 .taken))
+
+loop-holds : tie.Need-loop-holds Inv-loop μ-loop
+loop-holds c =
+    let g = c .before .before .before .args in
+    (omega arith, omega arith, omega arith, verdict-start (λ m. block? anyPeriod turns (g .w .now)) (length (g .w .now)) (g .ends .now) ∙ split-judged (g .w .now) (g .ends .now) (omega arith))
+
+mul-end : tie.Need-mul-end Inv-loop μ-loop
+mul-end c = omega arith
+
+shared-slice-read-end : tie.Need-shared-slice-read-end Inv-loop μ-loop
+shared-slice-read-end c = omega arith
+
+cast-end : tie.Need-cast-end Inv-loop μ-loop
+cast-end c = omega (arith, c .shared-slice-known3 .given (c .before .before .loop .k))
+
+add-number : tie.Need-add-number Inv-loop μ-loop
+add-number c = omega arith
+
+cast-number : tie.Need-cast-number Inv-loop μ-loop
+cast-number c = omega arith
+
+returns-2 : tie.Need-returns-2 Inv-loop μ-loop
+returns-2 c =
+    let g = c .before .before .before .before .before .before .before .args in
+    let l = c .before .before .before .loop in
+    let B : ℕ → ℕ → ℕ → Bool = λ m. block? anyPeriod turns (g .w .now) in
+    split-answered (g .w .now) (g .ends .now) _
+    (ap (refused 3) (add-one (l .k))
+    ∙ sym (verdict-low B (length (g .w .now)) (l .k) (l .before) (getD (g .ends .now) (l .k) 0) (drop (l .k + 1) (g .ends .now)) (c .if2 .taken))
+    ∙ sym (verdict-more B (length (g .w .now)) (l .k) (l .before) (g .ends .now) (omega arith))
+    ∙ l .inv .3)
+
+returns-3 : tie.Need-returns-3 Inv-loop μ-loop
+returns-3 c =
+    let g = c .before .before .before .before .before .before .before .before .args in
+    let l = c .before .before .before .before .loop in
+    let B : ℕ → ℕ → ℕ → Bool = λ m. block? anyPeriod turns (g .w .now) in
+    split-answered (g .w .now) (g .ends .now) _
+    (ap (refused 3) (add-one (l .k))
+    ∙ sym (verdict-high B (length (g .w .now)) (l .k) (l .before) (getD (g .ends .now) (l .k) 0) (drop (l .k + 1) (g .ends .now)) (c .if3 .taken))
+    ∙ sym (verdict-more B (length (g .w .now)) (l .k) (l .before) (g .ends .now) (omega arith))
+    ∙ l .inv .3)
+
+sub-smallest-period : tie.Need-sub-smallest-period Inv-loop μ-loop
+sub-smallest-period c = omega arith
+
+part-smallest-period-start : tie.Need-part-smallest-period-start Inv-loop μ-loop
+part-smallest-period-start c = search needs
+
+part-smallest-period-end : tie.Need-part-smallest-period-end Inv-loop μ-loop
+part-smallest-period-end c = search needs
+
+smallest-period-requires : tie.Need-smallest-period-requires Inv-loop μ-loop
+smallest-period-requires c κs = search needs
+
+sub-if4 : tie.Need-sub-if4 Inv-loop μ-loop
+sub-if4 c = omega arith
+
+mul-if4 : tie.Need-mul-if4 Inv-loop μ-loop
+mul-if4 c = omega (arith, c .smallest-period .ensures, part-smallest (c .before .before .before .before .before .before .before .before .before .before .args .w .now) (c .before .before .before .before .before .before .loop .before) (getD (c .before .before .before .before .before .before .before .before .before .before .args .ends .now) (c .before .before .before .before .before .before .loop .k) 0) (omega arith) (omega arith) .period .fits)
+
+returns-4 : tie.Need-returns-4 Inv-loop μ-loop
+returns-4 c =
+    let g = c .before .before .before .before .before .before .before .before .before .before .before .args in
+    let l = c .before .before .before .before .before .before .before .loop in
+    let B : ℕ → ℕ → ℕ → Bool = λ m. block? anyPeriod turns (g .w .now) in
+    split-answered (g .w .now) (g .ends .now) _
+    (ap (refused 4) (add-one (l .k))
+    ∙ sym (verdict-no-block B (length (g .w .now)) (l .k) (l .before) (getD (g .ends .now) (l .k) 0) (drop (l .k + 1) (g .ends .now)) (omega arith) (omega arith) (block-test (g .w .now) (l .before) (getD (g .ends .now) (l .k) 0) (c .before .smallest-period .result) (omega arith) (omega arith) (c .before .smallest-period .ensures) ∙ lt-leb (turns * c .before .smallest-period .result) (getD (g .ends .now) (l .k) 0 - l .before) (c .if4 .taken)))
+    ∙ sym (verdict-more B (length (g .w .now)) (l .k) (l .before) (g .ends .now) (omega arith))
+    ∙ l .inv .3)
+
+add-k : tie.Need-add-k Inv-loop μ-loop
+add-k c = omega arith
+
+loop-less : tie.Need-loop-less Inv-loop μ-loop
+loop-less c = omega arith
+
+loop-again : tie.Need-loop-again Inv-loop μ-loop
+loop-again c =
+    let g = c .before .before .before .before .before .before .before .before .before .before .before .args in
+    let l = c .before .before .before .before .before .before .before .loop in
+    let B : ℕ → ℕ → ℕ → Bool = λ m. block? anyPeriod turns (g .w .now) in (
+      omega arith,
+      omega arith,
+      omega arith,
+      ap (λ (x : ℕ). verdictFrom B (length (g .w .now)) x (getD (g .ends .now) (l .k) 0) (drop (l .k + 1) (g .ends .now))) (add-one (l .k))
+          ∙ sym (verdict-block B (length (g .w .now)) (l .k) (l .before) (getD (g .ends .now) (l .k) 0) (drop (l .k + 1) (g .ends .now)) (omega arith) (omega arith)
+          (block-test (g .w .now) (l .before) (getD (g .ends .now) (l .k) 0) (c .before .smallest-period .result) (omega arith) (omega arith) (c .before .smallest-period .ensures)
+          ∙ le-leb (turns * c .before .smallest-period .result) (getD (g .ends .now) (l .k) 0 - l .before) (c .if4 .left)))
+          ∙ sym (verdict-more B (length (g .w .now)) (l .k) (l .before) (g .ends .now) (omega arith))
+          ∙ l .inv .3,
+    )
+
+returns-5 : tie.Need-returns-5 Inv-loop μ-loop
+returns-5 c =
+    let g = c .before .before .before .before .before .before .args in
+    let l = c .before .before .loop in
+    let B : ℕ → ℕ → ℕ → Bool = λ m. block? anyPeriod turns (g .w .now) in
+    split-answered (g .w .now) (g .ends .now) _
+    (sym (verdict-unfinished B (length (g .w .now)) (l .k) (l .before) (c .if5 .taken))
+    ∙ sym (verdict-none-left B (length (g .w .now)) (l .k) (l .before) (g .ends .now) (omega arith))
+    ∙ l .inv .3)
+
+cast-t23 : tie.Need-cast-t23 Inv-loop μ-loop
+cast-t23 c = omega arith
+
+returns-6 : tie.Need-returns-6 Inv-loop μ-loop
+returns-6 c =
+    let g = c .before .before .before .before .before .before .args in
+    let l = c .before .before .loop in
+    let B : ℕ → ℕ → ℕ → Bool = λ m. block? anyPeriod turns (g .w .now) in
+    split-answered (g .w .now) (g .ends .now) _
+    (sym (verdict-finished B (length (g .w .now)) (l .k) (l .before) (c .if5 .left))
+    ∙ sym (verdict-none-left B (length (g .w .now)) (l .k) (l .before) (g .ends .now) (omega arith))
+    ∙ l .inv .3)
+
+pub judge-split-spec : {M : Type 1} → statement M
+judge-split-spec =
+    tie.close
+    (tie.spec
+    Inv-loop
+    μ-loop
+    returns
+    loop-holds
+    mul-end
+    shared-slice-read-end
+    cast-end
+    add-number
+    cast-number
+    returns-2
+    returns-3
+    sub-smallest-period
+    part-smallest-period-start
+    part-smallest-period-end
+    smallest-period-requires
+    sub-if4
+    mul-if4
+    returns-4
+    add-k
+    loop-less
+    loop-again
+    returns-5
+    cast-t23
+    returns-6)

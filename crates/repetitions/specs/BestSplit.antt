@@ -1,0 +1,83 @@
+-- Best split: what it answers, what it leaves in both tables, and what that means. "Best split: 1, 8, 9, 2, 7."
+use mathlib.Core.Path.{_≡_}
+use mathlib.Core.Logic.{_⊎_}
+use mathlib.Core.Bool.{Bool, cond, _||_}
+use mathlib.Core.List.{List, [], _∷_, _++_}
+use Prim.Native.Nat.{ℕ, zero, suc, _+_, _*_, _≤_, _<_}
+use lib.Dec.{ltb}
+use lib.ListN.{length, getD, take, drop, replicate}
+use Rattle.answers.specs.declared.Refusal.the-variants.{TooLong, NoFactorization, TooFewPlaces, BadChoice, ShortTable}
+use Rattle.answers.specs.Outcome.{Outcome, accepted, refused, refusal, limit}
+use Rattle.periods.specs.Period.{anyPeriod, turns}
+use Rattle.factors.specs.Factorization.{Factorization, size, Choice, choiceOf, AsGood, Best, Cell, unreachable, reached, cell, bestEnds}
+use Rattle.factors.specs.Table.{none, rows, sizes}
+use Rattle.repetitions.specs.Block.{Block, block?}
+
+-- ---- computed
+
+-- the answer where the boundary is known, and so many places are lent for the ends
+abbrev pub sizeOutcome : Cell → ℕ → Outcome
+sizeOutcome unreachable places = refusal NoFactorization
+sizeOutcome (reached s p) places = cond (ltb places s) (refusal TooFewPlaces) (accepted (s ∷ []))
+
+-- the ends' table: only an accepted answer changes it, and only its first places
+abbrev pub sizeEnds : Cell → List ℕ → List ℕ → List ℕ
+sizeEnds unreachable best e = e
+sizeEnds (reached s p) best e = cond (ltb (length e) s) e (best ++ drop s e)
+
+-- the whole word's boundary
+abbrev pub lastCell : List ℕ → ℕ → Cell
+lastCell w choice = cell (choiceOf choice) (block? anyPeriod turns w) (length w)
+
+-- "1: n above 4,096. 8: a choice other than 1 or 2. 9: a working table under 4×(n+1) places." One of these is met, or the rest decides.
+abbrev pub tested : {A : Type 0} → List ℕ → ℕ → ℕ → A → A → A → A → A
+tested w choice space long bad short rest =
+    cond (ltb limit (length w)) long
+    (cond (ltb choice 1 || ltb 2 choice) bad (cond (ltb space (rows * (length w + 1))) short rest))
+
+-- e and t are the lent tables for the ends and for the work
+unfoldable pub bestOutcome : List ℕ → ℕ → List ℕ → List ℕ → Outcome
+bestOutcome w choice e t =
+    tested w choice (length t) (refusal TooLong) (refusal BadChoice) (refusal ShortTable) (sizeOutcome (lastCell w choice) (length e))
+
+unfoldable pub bestEndsTable : List ℕ → ℕ → List ℕ → List ℕ → List ℕ
+bestEndsTable w choice e t =
+    tested w choice (length t) e e e (sizeEnds (lastCell w choice) (bestEnds (choiceOf choice) (block? anyPeriod turns w) (length w)) e)
+
+-- "The working table afterwards holds in its first n+1 places the best size of each leading length 0 to n, 4,294,967,295 where none exists; the following 3×(n+1)
+-- places hold 0." Also after 2 and 7.
+unfoldable pub bestWork : List ℕ → ℕ → List ℕ → List ℕ
+bestWork w choice t =
+    tested w choice (length t) t t t
+    (sizes (choiceOf choice) (block? anyPeriod turns w) (length w) ++ (replicate (3 * (length w + 1)) 0 ++ drop (rows * (length w + 1)) t))
+
+-- ---- demand 3
+
+-- what is reported of a prefix, taken as a word of its own: "none exactly when it has no split. Otherwise the fewest we report is the size of one of its splits, and
+-- every split of it has at least as many blocks; the most we report is the size of one too, and every split of it has at most as many."
+pub data Reported (c : Choice) (u : List ℕ) (v : ℕ) : Type 0 where
+  unsplittable : v ≡ none → ((es : List ℕ) → Factorization (Block anyPeriod turns u) (length u) es → ⊥) → Reported c u v
+  best :
+      (es : List ℕ) → Factorization (Block anyPeriod turns u) (length u) es → size es ≡ v → v < none
+      → ((fs : List ℕ) → Factorization (Block anyPeriod turns u) (length u) fs → AsGood c v (size fs)) → Reported c u v
+
+-- what is answered of the whole; e and x are the ends' table at entry and at exit, v what is reported of the whole
+pub data Answered (c : Choice) (w : List ℕ) (e : List ℕ) (v : ℕ) (o : Outcome) (x : List ℕ) : Type 0 where
+  no-split : ((es : List ℕ) → Factorization (Block anyPeriod turns w) (length w) es → ⊥) → o ≡ refused 2 0 → x ≡ e → Answered c w e v o x
+  too-few : (es : List ℕ) → Best c (Block anyPeriod turns w) (length w) v es → length e < v → o ≡ refused 7 0 → x ≡ e → Answered c w e v o x
+  written : (es : List ℕ) → Best c (Block anyPeriod turns w) (length w) v es → v ≤ length e → o ≡ accepted (v ∷ []) → x ≡ es ++ drop v e → Answered c w e v o x
+
+-- t and y are the working table at entry and at exit
+pub record Settled (w : List ℕ) (choice : ℕ) (e t : List ℕ) (o : Outcome) (x y : List ℕ) : Type 0 where
+  pub prefixes : (m : ℕ) → m ≤ length w → Reported (choiceOf choice) (take m w) (getD y m 0)
+  pub cleared : (i : ℕ) → length w < i → i < rows * (length w + 1) → getD y i 0 ≡ 0
+  pub kept : drop (rows * (length w + 1)) y ≡ drop (rows * (length w + 1)) t
+  pub long : length y ≡ length t
+  pub answered : Answered (choiceOf choice) w e (getD y (length w) 0) o x
+
+pub data BestMeaning (w : List ℕ) (choice : ℕ) (e t : List ℕ) (o : Outcome) (x y : List ℕ) : Type 0 where
+  too-long : limit < length w → o ≡ refused 1 0 → x ≡ e → y ≡ t → BestMeaning w choice e t o x y
+  bad-choice : length w ≤ limit → (choice ≡ 1 → ⊥) → (choice ≡ 2 → ⊥) → o ≡ refused 8 0 → x ≡ e → y ≡ t → BestMeaning w choice e t o x y
+  short-table :
+      length w ≤ limit → (choice ≡ 1) ⊎ (choice ≡ 2) → length t < rows * (length w + 1) → o ≡ refused 9 0 → x ≡ e → y ≡ t → BestMeaning w choice e t o x y
+  settled : length w ≤ limit → (choice ≡ 1) ⊎ (choice ≡ 2) → rows * (length w + 1) ≤ length t → Settled w choice e t o x y → BestMeaning w choice e t o x y

@@ -1,0 +1,104 @@
+// For the library's own crates: the caller shows what each function requires.
+ghost use mathlib.Core.Path.{_≡_};
+ghost use mathlib.Core.List.{_++_};
+ghost use Prim.Native.Nat.{ℕ, _≤_, _<_, _+_, _-_, _*_};
+ghost use lib.ListN.{length, getD, drop, replicate};
+ghost use Rattle.answers.specs.Outcome.{countedView, limit};
+ghost use Rattle.periods.specs.Period.{anyPeriod, turns};
+ghost use Rattle.factors.specs.Factorization.{choiceOf, bestEnds};
+ghost use Rattle.factors.specs.Table.{none, rows, sizes, spread, filled, Linked};
+ghost use Rattle.repetitions.specs.Block.{block?};
+ghost use Rattle.repetitions.specs.Fill.{placeOfUnit, longEnough, rowOne, handedOutcome, handedEnds};
+ghost use Rattle.repetitions.specs.BestSplit.{sizeOutcome, sizeEnds, lastCell};
+use answers::Counted;
+use answers::Refusal;
+use factors::NONE;
+
+// Offers a size from boundary j to each boundary at which a repetition that starts there ends. Row 2
+// has the units of the parts after boundary j; they never fall, so the first that is too long for
+// any part ends the work.
+fn spread(work: &mut [u32], n: usize, choice: u32, j: usize, size: u32)
+    requires { ⌜ (n ≤ limit) × (j ≤ n) × (rows * (n + 1) ≤ length (now work)) × ((d e : ℕ) → d ≤ e → e < n - j → getD (now work) (placeOfUnit n d) 0 ≤ getD (now work) (placeOfUnit n e) 0) ⌝ }
+    ensures { λ _. ⌜ now (work .exit) ≡ spread (choiceOf choice) n j size (longEnough turns n (now (work .entry))) (n - j) (now (work .entry)) ⌝ }
+{
+    let row = n + 1;
+    let units = row + row;
+    let len = n - j;
+    let mut d: usize = 0;
+    while d < len {
+        let span = periods::TURNS * (work[units + d] as usize);
+        if len < span {
+            return;
+        }
+        d += 1;
+        if d < span {
+            continue;
+        }
+        let m = j + d;
+        factors::inner::offer(work, choice, m, row + m, size, j as u32);
+    }
+}
+
+// Fills the working table: the best size of each prefix length, and the previous boundary that it
+// came from. Boundaries in rising order; one that is not reached offers nothing.
+pub fn fill(w: &[u8], choice: u32, work: &mut [u32])
+    requires { ⌜ (length (now w) ≤ limit) × (rows * (length (now w) + 1) ≤ length (now work)) ⌝ }
+    ensures { λ _. ⌜ now (work .exit) ≡ filled (choiceOf choice) (block? anyPeriod turns (now (w .entry))) (length (now (w .entry))) (now (work .entry)) ⌝ }
+{
+    let n = w.len();
+    let row = n + 1;
+    let two = row + row;
+    let three = two + row;
+    factors::inner::start(work, n);
+    factors::inner::clear(&mut work[row..two]);
+    let mut j: usize = 0;
+    while j < n {
+        let size = work[j];
+        if size == NONE {
+            j += 1;
+            continue;
+        }
+        periods::inner::units(&w[j..n], &mut work[two..three]);
+        spread(work, n, choice, j, size + 1);
+        j += 1;
+    }
+    let four = two + two;
+    factors::inner::clear(&mut work[two..four]);
+}
+
+// Answers from a filled table, and writes the ends where there is a factorization and room for them.
+fn hand_out(work: &[u32], n: usize, ends: &mut [u32]) -> Counted
+    requires { ⌜ (n ≤ limit) × (n + 1 + (n + 1) ≤ length (now work)) × ((getD (now work) n 0 ≡ none → ⊥) → Linked (rowOne n (now work)) (getD (now work) n 0) n) ⌝ }
+    ensures { λ r. ⌜ countedView r ≡ handedOutcome (getD (now (work .entry)) n 0) (length (now (ends .entry))) ⌝ }
+    ensures { λ _. ⌜ now (ends .exit) ≡ handedEnds n (now (work .entry)) (now (ends .entry)) ⌝ }
+{
+    let size = work[n];
+    if size == NONE {
+        return Counted::Refused(Refusal::NoFactorization);
+    }
+    let count = size as usize;
+    if ends.len() < count {
+        return Counted::Refused(Refusal::TooFewPlaces);
+    }
+    let row = n + 1;
+    let two = row + row;
+    factors::inner::write_ends(&work[row..two], n, count, ends);
+    Counted::Count(size)
+}
+
+// Best split where 1, 8 and 9 are not met: fills the table, hands out the answer, and clears the row
+// of previous boundaries.
+pub fn settle(w: &[u8], choice: u32, ends: &mut [u32], work: &mut [u32]) -> Counted
+    requires { ⌜ (length (now w) ≤ limit) × (rows * (length (now w) + 1) ≤ length (now work)) ⌝ }
+    ensures { λ r. ⌜ countedView r ≡ sizeOutcome (lastCell (now (w .entry)) choice) (length (now (ends .entry))) ⌝ }
+    ensures { λ _. ⌜ now (ends .exit) ≡ sizeEnds (lastCell (now (w .entry)) choice) (bestEnds (choiceOf choice) (block? anyPeriod turns (now (w .entry))) (length (now (w .entry)))) (now (ends .entry)) ⌝ }
+    ensures { λ _. ⌜ now (work .exit) ≡ sizes (choiceOf choice) (block? anyPeriod turns (now (w .entry))) (length (now (w .entry))) ++ (replicate (3 * (length (now (w .entry)) + 1)) 0 ++ drop (rows * (length (now (w .entry)) + 1)) (now (work .entry))) ⌝ }
+{
+    let n = w.len();
+    fill(w, choice, work);
+    let answer = hand_out(work, n, ends);
+    let row = n + 1;
+    let two = row + row;
+    factors::inner::clear(&mut work[row..two]);
+    answer
+}

@@ -1,0 +1,73 @@
+// Repetition factorizations: best split, the judges, path of a split.
+ghost use mathlib.Core.Path.{_≡_};
+ghost use Prim.Native.Nat.{_≤_, _<_, _+_, _*_};
+ghost use lib.ListN.{length};
+ghost use Rattle.answers.specs.Outcome.{countedView, limit};
+ghost use Rattle.repetitions.specs.BestSplit.{bestOutcome, bestEndsTable, bestWork, BestMeaning};
+ghost use Rattle.repetitions.specs.Judges.{splitOutcome, SplitMeaning};
+
+pub mod inner;
+
+use answers::Counted;
+use answers::Refusal;
+
+// Best split: choice 1 is fewest, 2 is most. Gives the size, and writes the ends of the
+// factorization of that size whose last block is longest, then the one before it, and so on. The
+// working table afterwards holds the best size of each prefix length. Refusals: 1, 8, 9, 2, 7.
+// Time: quadratic in the word's length at most. About 50 bytes of stack a block.
+pub fn best_split(w: &[u8], choice: u32, ends: &mut [u32], work: &mut [u32]) -> Counted
+    ensures answer { λ r. ⌜ countedView r ≡ bestOutcome (now (w .entry)) choice (now (ends .entry)) (now (work .entry)) ⌝ }
+    ensures written { λ r. ⌜ now (ends .exit) ≡ bestEndsTable (now (w .entry)) choice (now (ends .entry)) (now (work .entry)) ⌝ }
+    ensures worked { λ r. ⌜ now (work .exit) ≡ bestWork (now (w .entry)) choice (now (work .entry)) ⌝ }
+    ensures meaning { λ r. ⌜ BestMeaning (now (w .entry)) choice (now (ends .entry)) (now (work .entry)) (countedView r) (now (ends .exit)) (now (work .exit)) ⌝ }
+{
+    let n = w.len();
+    if answers::LIMIT < n {
+        return Counted::Refused(Refusal::TooLong);
+    }
+    if choice < 1 {
+        return Counted::Refused(Refusal::BadChoice);
+    }
+    if 2 < choice {
+        return Counted::Refused(Refusal::BadChoice);
+    }
+    if work.len() < factors::ROWS * (n + 1) {
+        return Counted::Refused(Refusal::ShortTable);
+    }
+    inner::settle(w, choice, ends, work)
+}
+
+// Judge a split: accepted, with the number of blocks, exactly when the ends are those of a
+// factorization. Refusals: 1; then for each end in turn 3, 4; then 5. Time: quadratic in the word's
+// length at most.
+pub fn judge_split(w: &[u8], ends: &[u32]) -> Counted
+    ensures answer { λ r. ⌜ countedView r ≡ splitOutcome (now (w .entry)) (now (ends .entry)) ⌝ }
+    ensures meaning { λ r. ⌜ SplitMeaning (now (w .entry)) (now (ends .entry)) (countedView r) ⌝ }
+{
+    let n = w.len();
+    if answers::LIMIT < n {
+        return Counted::Refused(Refusal::TooLong);
+    }
+    let mut before: usize = 0;
+    let mut k: usize = 0;
+    while k < ends.len() {
+        let end = ends[k] as usize;
+        let number = (k + 1) as u32;
+        if end <= before {
+            return Counted::Refused(Refusal::BadEnd(number));
+        }
+        if n < end {
+            return Counted::Refused(Refusal::BadEnd(number));
+        }
+        let unit = periods::smallest_period(&w[before..end]);
+        if end - before < periods::TURNS * unit {
+            return Counted::Refused(Refusal::NotRepetition(number));
+        }
+        before = end;
+        k += 1;
+    }
+    if before != n {
+        return Counted::Refused(Refusal::Unfinished);
+    }
+    Counted::Count(k as u32)
+}
