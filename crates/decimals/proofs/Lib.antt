@@ -1,0 +1,3 @@
+pub mod Claims
+pub mod Loops
+pub mod Examples

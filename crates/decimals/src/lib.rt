@@ -1,0 +1,11 @@
+// Numbers in decimal: their digits made and read, in one function each.
+pub mod inner;
+
+// The byte of the digit 0.
+pub const ZERO: u8 = 48;
+
+// A number that was read, or bytes that are not all digits.
+pub enum Number {
+    Value(u32),
+    NotDigits,
+}

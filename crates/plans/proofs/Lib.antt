@@ -1,0 +1,4 @@
+pub mod Loops
+pub mod LineClaims
+pub mod CallClaims
+pub mod Examples
