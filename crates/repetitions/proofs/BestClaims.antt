@@ -1,25 +1,24 @@
 -- Best split says all of demand 3, for every word, choice and tables: `best-means`. A filled table says for each prefix length whether it has a factorization, and if so
 -- the best size (factors/proofs/Optimal.antt); the previous boundaries lead back over the ends that win the tie; and the factorizations of a prefix in place are those that it has as a
 -- word of its own. Assumes nothing.
-use mathlib.Core.Path.{_≡_, refl, sym, ap, ap₂, _∙_, subst}
-use mathlib.Core.Logic.{_⊎_, inl, inr, _↔_}
+use mathlib.Core.Path.{_≡_, refl, sym, ap, _∙_, subst}
+use mathlib.Core.Logic.{_⊎_, inl, inr}
 use mathlib.Core.Bool.{Bool, true, false, cond, _||_}
-use mathlib.Core.List.{List, [], _∷_, _++_, append-assoc}
-use Prim.Native.Nat.{ℕ, zero, suc, _+_, _-_, _*_, _≤_, _<_}
+use mathlib.Core.List.{List, _++_, append-assoc}
+use Prim.Native.Nat.{ℕ, suc, _+_, _-_, _*_, _≤_, _<_}
 use native.Mathlib.Omega.{arith}
-use native.Mathlib.Decide.{decLt, decLe, ℕ-discrete}
-use native.Mathlib.Nat.{sub-zero}
-use borrow.Author.Tests.{lt-ltb, le-ltb, eq-eqb, ne-eqb}
-use lib.Dec.{T, ltb, eqb}
-use lib.ListN.{length, getD, take, drop, replicate, length-append, length-take, length-drop, length-replicate, getD-replicate, replicate-append-replicate, List·getD-append, take-append-drop}
-use lib.Seq.{take-at, drop-at, take-append-le, drop-append-le, getD-append-add, drop-drop, drop-append-add, take-append-seam, take-length}
-use Rattle.answers.specs.Outcome.{Outcome, accepted, refused, refusal, limit}
+use native.Mathlib.Decide.{decLt, ℕ-discrete}
+use borrow.Author.Tests.{lt-ltb, le-ltb, ne-eqb}
+use lib.Dec.{ltb, eqb}
+use lib.ListN.{length, getD, take, drop, replicate, length-append, length-take, length-drop, length-replicate, getD-replicate, replicate-append-replicate, List·getD-append}
+use lib.Seq.{take-at, drop-at, getD-append-add, drop-append-add}
+use Rattle.answers.specs.Outcome.{Outcome, refused, limit}
 use Rattle.periods.specs.Period.{anyPeriod, turns}
-use Rattle.factors.specs.Factorization.{Factorization, size, Choice, choiceOf, AsGood, Best, Cell, unreachable, reached, cell, bestEnds}
+use Rattle.factors.specs.Factorization.{Factorization, Choice, choiceOf, Cell, unreachable, reached, cell, bestEnds}
 use Rattle.factors.specs.Table.{none, rows, sizeIn, sizes, previous, filled, endsBack, Linked}
 use Rattle.factors.proofs.Optimal.{Answers, best-factorization, size-bound}
 use Rattle.factors.proofs.TableLaws.{length-sizes, length-previous, sizes-at, previous-agrees, linked, ends-back}
-use Rattle.factors.proofs.Lent.{lent, lent-length}
+use Rattle.factors.proofs.Lent.{lent}
 use Rattle.repetitions.specs.Block.{Block, block?}
 use Rattle.repetitions.specs.Fill.{rowOne, handedOutcome, handedEnds}
 use Rattle.repetitions.specs.BestSplit.{sizeOutcome, sizeEnds, lastCell, tested, bestOutcome, bestEndsTable, bestWork, Reported, unsplittable, best, Answered, no-split, too-few, written, Settled, BestMeaning, too-long, bad-choice, short-table, settled}

@@ -1,9 +1,9 @@
 -- Laws for filling the working table: the test of a unit, the units in row 2 of the parts after a boundary, the table at the start, after each boundary and at the
 -- end. The general part is factors/proofs/Filling.antt; here the blocks are repetitions. Assumes nothing.
 use mathlib.Core.Path.{_≡_, refl, sym, ap, _∙_, subst}
-use mathlib.Core.Bool.{Bool, true, false, _&&_}
-use mathlib.Core.List.{List, [], _∷_, _++_, append-assoc}
-use Prim.Native.Nat.{ℕ, zero, suc, _+_, _-_, _*_, _≤_, _<_}
+use mathlib.Core.Bool.{true, false}
+use mathlib.Core.List.{List, _++_, append-assoc}
+use Prim.Native.Nat.{ℕ, suc, _+_, _-_, _*_, _≤_, _<_}
 use native.Mathlib.Omega.{arith}
 use native.Mathlib.Numerals.{add-one}
 use borrow.Author.Tests.{le-leb, lt-leb}
@@ -15,10 +15,10 @@ use Rattle.periods.specs.Period.{part, smallestPeriod, repetition?, prefixPerio
 use Rattle.periods.proofs.InPlace.{placed-part}
 use Rattle.periods.proofs.Claims.{prefix-periods-length, prefix-periods-at, prefix-periods-rise}
 use Rattle.periods.proofs.PartClaims.{repetition-any}
-use Rattle.factors.specs.Factorization.{Choice, cell}
+use Rattle.factors.specs.Factorization.{Choice}
 use Rattle.factors.specs.Table.{none, rows, sizes, previous, started, spread, filled}
 use Rattle.factors.proofs.TableLaws.{length-started, started-drop}
-use Rattle.factors.proofs.Lent.{lent, lent-length, lent-below, lent-within, lent-above, lent-rest}
+use Rattle.factors.proofs.Lent.{lent, lent-length, lent-below, lent-within, lent-rest}
 use Rattle.factors.proofs.Filling.{Scanned, scanned-same, scanned-start, scanned-skip, scanned-spread, scanned-rows, length-spread, spread-drop}
 use Rattle.repetitions.specs.Block.{block?}
 use Rattle.repetitions.specs.Fill.{placeOfUnit, longEnough}

@@ -1,24 +1,22 @@
--- The judges accept exactly the factorizations and the encodings of paths, and path of a split gives the run numbers of the one path. By the verdict's claims
--- (factors/proofs/VerdictClaims.antt) and the correspondence of paths and factorizations. Assumes nothing.
+-- Judge a split accepts exactly the factorizations, and names the first fault (split-means), by the verdict's claims (factors/proofs/VerdictClaims.antt). The loops of
+-- the judges go by the verdict on the ends that are left. Assumes nothing.
 use mathlib.Core.Path.{_≡_, refl, sym, ap, ap₂, _∙_, subst}
-use mathlib.Core.Logic.{_⊎_, inl, inr, _↔_}
-use mathlib.Core.Bool.{Bool, true, false, cond, _&&_}
-use mathlib.Core.List.{List, [], _∷_, _++_}
-use Prim.Native.Nat.{ℕ, zero, suc, _+_, _-_, _*_, _/_, _%_, _≤_, _<_}
+use mathlib.Core.Bool.{Bool}
+use mathlib.Core.List.{List, [], _∷_}
+use Prim.Native.Nat.{ℕ, _+_, _-_, _*_, _≤_, _<_}
 use native.Mathlib.Omega.{arith}
 use native.Mathlib.Numerals.{add-one}
-use native.Mathlib.Decide.{decLt, decLe, ℕ-discrete}
-use borrow.Author.Tests.{lt-ltb, le-ltb, le-leb, lt-leb, eq-eqb, ne-eqb}
-use lib.Dec.{T, leb, ltb, eqb}
+use native.Mathlib.Decide.{decLt}
+use borrow.Author.Tests.{lt-ltb, le-ltb, le-leb}
+use lib.Dec.{leb}
 use lib.ListN.{length, getD, drop, drop-of-length-le}
 use lib.Seq.{drop-cons}
-use Rattle.answers.specs.Outcome.{Outcome, accepted, refused, refusal, limit, unlessRefused, tableUnless}
-use Rattle.periods.specs.Period.{part, smallestPeriod, repetition?, anyPeriod, turns}
+use Rattle.answers.specs.Outcome.{Outcome, refused, limit}
+use Rattle.periods.specs.Period.{part, smallestPeriod, anyPeriod, turns}
 use Rattle.periods.proofs.InPlace.{placed-part}
 use Rattle.periods.proofs.PartClaims.{repetition-any}
-use Rattle.factors.specs.Factorization.{Factorization}
-use Rattle.factors.specs.Verdict.{verdict, verdictFrom, VerdictMeaning}
-use Rattle.factors.proofs.VerdictClaims.{verdict-means, accepted-factorization, verdict-low, verdict-high, verdict-block, verdict-no-block, verdict-finished, verdict-unfinished}
+use Rattle.factors.specs.Verdict.{verdict, verdictFrom}
+use Rattle.factors.proofs.VerdictClaims.{verdict-means, accepted-factorization}
 use Rattle.repetitions.specs.Block.{Block, block?}
 use Rattle.repetitions.specs.Judges.{splitOutcome, SplitJudged, SplitMeaning, too-long, judged}
 use Rattle.repetitions.proofs.Blocks.{block-sound, block-complete, block-up}

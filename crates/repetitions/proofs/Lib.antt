@@ -5,3 +5,6 @@ pub mod FillLaws
 pub mod BestClaims
 pub mod JudgeClaims
 pub mod PathClaims
+pub mod NumberLaws
+pub mod PathJudgeClaims
+pub mod Examples

@@ -1,34 +1,30 @@
--- Path of a split gives the run numbers of the one path that goes with the split, and judge a path accepts exactly the encodings of the paths of the word's length. There is only one run
--- that encloses a block and has its unit, so the first in the table is that run. Assumes nothing.
-use mathlib.Core.Path.{_≡_, refl, sym, ap, ap₂, _∙_, subst}
-use mathlib.Core.Logic.{_⊎_, inl, inr, _↔_, _≢_}
+-- Path of a split gives the run numbers of the one path that goes with the split (path-means): there is only one run that encloses a block and has its unit, so the
+-- first in the table is that run. That run starts where the symbols a unit apart cease to agree to the left (run-starts). Assumes nothing.
+use mathlib.Core.Path.{_≡_, refl, sym, ap, _∙_, subst}
+use mathlib.Core.Logic.{_≢_}
 use mathlib.Core.Bool.{Bool, true, false, cond, _&&_}
 use mathlib.Core.List.{List, [], _∷_, _++_}
-use Prim.Native.Nat.{ℕ, zero, suc, _+_, _-_, _*_, _/_, _%_, _≤_, _<_}
+use Prim.Native.Nat.{ℕ, zero, suc, _+_, _-_, _≤_, _<_}
 use native.Mathlib.Omega.{arith}
-use native.Mathlib.Numerals.{add-one}
-use native.Mathlib.Decide.{decLt, decLe, ℕ-discrete}
-use borrow.Author.Tests.{lt-ltb, le-ltb, le-leb, lt-leb, eq-eqb, ne-eqb}
+use native.Mathlib.Decide.{decLt, ℕ-discrete}
+use borrow.Author.Tests.{lt-ltb, le-ltb, eq-eqb, ne-eqb}
 use lib.Dec.{T, leb, ltb, eqb, leb→le, le→leb, eqb→eq, eqb-refl, eqb·suc-zero}
-use lib.ListN.{length, getD, drop}
-use Rattle.answers.specs.Outcome.{Outcome, accepted, refused, refusal, limit, unlessRefused, tableUnless}
+use lib.ListN.{length, drop}
+use Rattle.answers.specs.Outcome.{Outcome, accepted, refused, limit, tableUnless}
 use Rattle.periods.specs.Period.{part, smallestPeriod, anyPeriod, turns}
 use Rattle.periods.proofs.Search.{and-intro, and-left, and-right}
 use Rattle.periods.proofs.InPlace.{symbol}
-use Rattle.runs.specs.Run.{Row, Run, Entry, Lists}
+use Rattle.runs.specs.Run.{Row, Entry}
 use Rattle.runs.specs.Table.{runsOf}
-use Rattle.runs.specs.Inner.{entryOf}
-use Rattle.runs.proofs.InPlace.{RunIn, run-in}
+use Rattle.runs.proofs.InPlace.{RunIn}
 use Rattle.runs.proofs.Listed.{runs-listed}
 use Rattle.factors.specs.Factorization.{Chain, Factorization}
-use Rattle.factors.specs.Verdict.{verdict, VerdictMeaning, bad-end, no-block, unfinished, fine}
-use Rattle.factors.proofs.VerdictClaims.{verdict-means, accepted-length}
-use Rattle.repetitions.specs.Block.{Block, block?}
-use Rattle.repetitions.specs.Graph.{Node, black, Path, GoTogether, encoding, drops, runsOfPairs, endsOfPairs, Segment, Segments}
+use Rattle.factors.specs.Verdict.{VerdictMeaning, bad-end, no-block, unfinished, fine}
+use Rattle.repetitions.specs.Block.{Block}
+use Rattle.repetitions.specs.Graph.{Node, black, Path, GoTogether, encoding, runsOfPairs, endsOfPairs, Segment, Segments}
 use Rattle.repetitions.specs.Judges.{splitOutcome, SplitMeaning, too-long, judged, encloses?, firstNumber, runNumber, runNumbers, pathOutcome, pathTable, PathMeaning, refused-split, too-few, numbered}
 use Rattle.repetitions.specs.Walk.{leftEnd}
-use Rattle.repetitions.proofs.Blocks.{block-long}
-use Rattle.repetitions.proofs.Encodings.{encodes, encoding-ends, segment-block, block-segment, segment-one-number, segment-period, chain-segments}
+use Rattle.repetitions.proofs.Encodings.{encodes, encoding-ends, block-segment, segment-one-number, segment-period}
 use Rattle.repetitions.proofs.JudgeClaims.{split-means}
 
 two : 2 ≤ turns
@@ -223,7 +219,7 @@ module _ (w : List ℕ) (p : ℕ) where
     pub agrees : (x : ℕ) → a ≤ x → x < i → symbol w x ≡ symbol w (x + p)
     pub stops : (x : ℕ) → suc x ≡ a → symbol w x ≢ symbol w (x + p)
 
-  left-end-is : (i : ℕ) → LeftEnd i (leftEnd w p i)
+  pub left-end-is : (i : ℕ) → LeftEnd i (leftEnd w p i)
   unfolding leftEnd
   left-end-is zero = record { low = omega arith; agrees = λ x a b. absurd (omega arith); stops = λ x e. absurd (omega arith) }
   left-end-is (suc i) = go (left-end-is i) (ℕ-discrete (symbol w i) (symbol w (i + p)))

@@ -6,9 +6,6 @@ use borrow.Author.Needs.{needs}
 use Rattle.repetitions.proofs.BestClaims.{promised-long, promised-bad, promised-short, promised-settled, best-answered}
 use Rattle.repetitions.proofs.best_split.Statement.{statement}
 use Rattle.repetitions.proofs.best_split.Tie as tie
-use Rattle.repetitions.proofs.best_split.Reads as reads
-use Rattle.repetitions.proofs.best_split.Lts as lts
-use Rattle.repetitions.proofs.inner.settle.Reads as settle-reads
 
 returns : tie.Need-returns
 returns c =

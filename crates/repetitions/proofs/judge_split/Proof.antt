@@ -17,9 +17,6 @@ use Rattle.repetitions.specs.Judges.{splitOutcome}
 use Rattle.repetitions.proofs.JudgeClaims.{split-too-long, split-judged, split-answered, block-test, verdict-more, verdict-none-left, verdict-start}
 use Rattle.repetitions.proofs.judge_split.Statement.{statement}
 use Rattle.repetitions.proofs.judge_split.Tie as tie
-use Rattle.repetitions.proofs.judge_split.Reads as reads
-use Rattle.repetitions.proofs.judge_split.Lts as lts
-use Rattle.periods.proofs.smallest_period.Reads as smallest-period-reads
 
 abbrev Inv-loop : tie.InvT-loop
 Inv-loop w ends n before₀ k₀ before k = (k ≤ before) × (before ≤ n) × (k ≤ length ends) × (verdictFrom (λ m. block? anyPeriod turns w) n k before (drop k ends) ≡ splitOutcome w ends)

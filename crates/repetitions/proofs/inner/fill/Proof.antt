@@ -1,25 +1,17 @@
 -- `repetitions::inner::fill` meets its contract: its loop keeps `Filling` of proofs/FillLaws.antt. Assumes nothing.
-use mathlib.Core.Path.{_≡_, refl, sym, ap, _∙_, subst}
-use mathlib.Core.List.{List, _++_}
+use mathlib.Core.Path.{_≡_, sym, ap, _∙_, subst}
+use mathlib.Core.List.{List}
 use Prim.Native.Nat.{ℕ, _+_, _-_, _*_, _<_, _≤_}
 use native.Mathlib.Omega.{arith}
 use borrow.Author.Needs.{needs}
-use lib.ListN.{length, getD, take, drop, length-take, length-drop}
-use Rattle.answers.specs.Outcome.{limit}
-use Rattle.periods.specs.Period.{part, turns}
+use lib.ListN.{length, getD, drop, length-take, length-drop}
 use Rattle.factors.specs.Factorization.{choiceOf}
-use Rattle.factors.specs.Table.{none, rows, started, spread, filled}
+use Rattle.factors.specs.Table.{rows, spread}
 use Rattle.factors.proofs.Lent.{lent, lent-length}
-use Rattle.repetitions.specs.Fill.{placeOfUnit, longEnough}
-use Rattle.repetitions.proofs.FillLaws.{second, third, fourth, zeros, unitsRow, Filling, zeros-length, begun-from, begun-long, begun-kept, filling-starts, filling-skips, laid-from, laid-long, laid-rises, filling-spreads, filling-done}
+use Rattle.repetitions.specs.Fill.{placeOfUnit}
+use Rattle.repetitions.proofs.FillLaws.{second, third, fourth, Filling, zeros-length, begun-from, begun-long, begun-kept, filling-starts, filling-skips, laid-from, laid-long, laid-rises, filling-spreads, filling-done}
 use Rattle.repetitions.proofs.inner.fill.Statement.{statement}
 use Rattle.repetitions.proofs.inner.fill.Tie as tie
-use Rattle.repetitions.proofs.inner.fill.Reads as reads
-use Rattle.repetitions.proofs.inner.fill.Lts as lts
-use Rattle.factors.proofs.inner.clear.Reads as clear-reads
-use Rattle.factors.proofs.inner.start.Reads as start-reads
-use Rattle.periods.proofs.inner.units.Reads as units-reads
-use Rattle.repetitions.proofs.inner.spread.Reads as spread-reads
 
 abbrev Inv-loop : tie.InvT-loop
 Inv-loop w choice work₀ n row two three j₀ work j = (j ≤ n) × Filling (choiceOf choice) w work₀ j work

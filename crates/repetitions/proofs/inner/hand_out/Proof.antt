@@ -5,9 +5,6 @@ use borrow.Author.Needs.{needs}
 use borrow.Author.Tests.{lt-ltb, le-ltb, eq-eqb, ne-eqb}
 use Rattle.repetitions.proofs.inner.hand_out.Statement.{statement}
 use Rattle.repetitions.proofs.inner.hand_out.Tie as tie
-use Rattle.repetitions.proofs.inner.hand_out.Reads as reads
-use Rattle.repetitions.proofs.inner.hand_out.Lts as lts
-use Rattle.factors.proofs.inner.write_ends.Reads as write-ends-reads
 
 mul-size : tie.Need-mul-size
 mul-size c = search needs

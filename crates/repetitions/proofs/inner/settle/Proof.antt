@@ -9,11 +9,6 @@ use Rattle.repetitions.specs.Block.{block?}
 use Rattle.repetitions.proofs.BestClaims.{filled-long, given-linked, given-outcome, given-ends, given-cleared}
 use Rattle.repetitions.proofs.inner.settle.Statement.{statement}
 use Rattle.repetitions.proofs.inner.settle.Tie as tie
-use Rattle.repetitions.proofs.inner.settle.Reads as reads
-use Rattle.repetitions.proofs.inner.settle.Lts as lts
-use Rattle.factors.proofs.inner.clear.Reads as clear-reads
-use Rattle.repetitions.proofs.inner.fill.Reads as fill-reads
-use Rattle.repetitions.proofs.inner.hand_out.Reads as hand-out-reads
 
 fill-requires : tie.Need-fill-requires
 fill-requires c κs = search needs

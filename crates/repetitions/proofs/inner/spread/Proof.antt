@@ -2,7 +2,7 @@
 -- Assumes nothing.
 use mathlib.Core.Path.{_≡_, ap, _∙_}
 use mathlib.Core.List.{List}
-use Prim.Native.Nat.{ℕ, _+_, _-_, _*_, _<_, _≤_}
+use Prim.Native.Nat.{ℕ, _+_, _-_, _<_, _≤_}
 use native.Mathlib.Omega.{arith}
 use lib.ListN.{length, getD}
 use Rattle.periods.specs.Period.{turns}
@@ -13,9 +13,6 @@ use Rattle.repetitions.specs.Fill.{placeOfUnit, longEnough}
 use Rattle.repetitions.proofs.FillLaws.{long-enough, not-long-enough}
 use Rattle.repetitions.proofs.inner.spread.Statement.{statement}
 use Rattle.repetitions.proofs.inner.spread.Tie as tie
-use Rattle.repetitions.proofs.inner.spread.Reads as reads
-use Rattle.repetitions.proofs.inner.spread.Lts as lts
-use Rattle.factors.proofs.inner.offer.Reads as offer-reads
 
 abbrev Inv-loop : tie.InvT-loop
 Inv-loop work₀ n choice j size row units len d₀ work d = (d ≤ len) × (work ≡ spread (choiceOf choice) n j size (longEnough turns n work₀) d work₀)

@@ -1,0 +1,229 @@
+-- Judge a path accepts exactly the encodings of the paths of the word's length: the test of a piece decides whether it is a segment of the run with the given number
+-- (segment-decides), an accepted proposal is a list of segments and so the encoding of a path (proofs/Encodings.antt), and the verdict says what the first fault is
+-- (factors/proofs/VerdictClaims.antt). Assumes nothing.
+use mathlib.Core.Path.{_≡_, refl, sym, ap, _∙_, subst}
+use mathlib.Core.Logic.{_↔_}
+use mathlib.Core.Bool.{Bool, true, false, _&&_}
+use mathlib.Core.List.{List, [], _∷_}
+use Prim.Native.Nat.{ℕ, zero, suc, _+_, _-_, _*_, _/_, _%_, _≤_, _<_}
+use native.Mathlib.Omega.{arith}
+use native.Mathlib.Decide.{decLt, decLe, ℕ-discrete}
+use borrow.Author.Tests.{lt-ltb, le-ltb, le-leb, lt-leb, eq-eqb, ne-eqb}
+use lib.Dec.{T, leb, leb→le, le→leb}
+use lib.ListN.{length, getD, drop}
+use Rattle.answers.specs.Outcome.{Outcome, accepted, refused, limit}
+use Rattle.periods.specs.Period.{anyPeriod, turns}
+use Rattle.periods.proofs.Search.{and-intro, and-left, and-right}
+use Rattle.runs.specs.Run.{Row, Entry}
+use Rattle.runs.specs.Table.{runsOf}
+use Rattle.runs.specs.Inner.{entryOf}
+use Rattle.runs.proofs.Listed.{runs-listed}
+use Rattle.runs.proofs.LookUps.{entry-of}
+use Rattle.factors.specs.Verdict.{verdict, verdictFrom}
+use Rattle.factors.proofs.VerdictClaims.{verdict-means, verdict-low, verdict-high, verdict-block, verdict-no-block, verdict-finished, verdict-unfinished}
+use Rattle.repetitions.specs.Graph.{Node, black, Path, encoding, runsOfPairs, endsOfPairs, Segment, Segments}
+use Rattle.repetitions.specs.Judges.{inRun?, numberGiven, segment?, pathJudgedOutcome, PathJudged, PathJudgedMeaning, too-long, odd, judged}
+use Rattle.repetitions.proofs.Blocks.{block-up}
+use Rattle.repetitions.proofs.Encodings.{encoded, encodes, segment-within, segment-block}
+use Rattle.repetitions.proofs.JudgeClaims.{verdict-more, verdict-none-left}
+
+-- ---- a run number and an end for each block
+
+pub length-ends-of-pairs : (ns : List ℕ) → length (endsOfPairs ns) ≡ length ns / 2
+length-ends-of-pairs [] = refl
+length-ends-of-pairs (r ∷ []) = refl
+length-ends-of-pairs (r ∷ e ∷ ns) = omega (arith, length-ends-of-pairs ns)
+
+pub run-given : (ns : List ℕ) (k : ℕ) → k + k + 1 < length ns → getD (runsOfPairs ns) k 0 ≡ getD ns (k + k) 0
+run-given [] k h = absurd (omega arith)
+run-given (r ∷ []) k h = absurd (omega arith)
+run-given (r ∷ e ∷ ns) zero h = refl
+run-given (r ∷ e ∷ ns) (suc k) h = let f : suc k + suc k ≡ suc (suc (k + k)) = omega arith in rw f (run-given ns k (omega arith))
+
+pub end-given : (ns : List ℕ) (k : ℕ) → k + k + 1 < length ns → getD (endsOfPairs ns) k 0 ≡ getD ns (k + k + 1) 0
+end-given [] k h = absurd (omega arith)
+end-given (r ∷ []) k h = absurd (omega arith)
+end-given (r ∷ e ∷ ns) zero h = refl
+end-given (r ∷ e ∷ ns) (suc k) h = let f : suc k + suc k + 1 ≡ suc (suc (k + k + 1)) = omega arith in rw f (end-given ns k (omega arith))
+
+-- ---- the test of a piece
+
+no-list : (s : Row) (rest : List Row) → [] ≡ s ∷ rest → ⊥
+no-list s rest e = let z : _≡_ {A = ℕ} 0 1 = cc in omega arith
+
+entry-first : (rows : List Row) (i : ℕ) (s : Row) (rest : List Row) → entryOf rows i ≡ s ∷ rest → Entry rows i s
+unfolding entryOf
+entry-first rows zero s rest e = absurd (no-list s rest e)
+entry-first [] (suc i) s rest e = absurd (no-list s rest e)
+entry-first (x ∷ xs) (suc zero) s rest e = cc
+entry-first (x ∷ xs) (suc (suc i)) s rest e = entry-first xs (suc i) s rest e
+
+module _ (allowed : ℕ → Bool) (k : ℕ) (w : List ℕ) (r i j : ℕ) where
+  in-run-sound : (rows : List Row) → entryOf (runsOf w) r ≡ rows → T (inRun? allowed k rows i j) → Segment allowed k w r i j
+  in-run-sound [] e h = absurd h
+  in-run-sound (s ∷ rest) e h =
+      let c = leb (i + k * s .period) j && allowed (s .period) in
+      let b = leb j (s .last) && c in
+      let hb = and-right (leb (s .first) (i + 1)) b h in
+      let hc = and-right (leb j (s .last)) c hb in
+      record {
+        run = s;
+        numbered = entry-first (runsOf w) r s rest e;
+        starts = leb→le (s .first) (i + 1) (and-left (leb (s .first) (i + 1)) b h);
+        ends = leb→le j (s .last) (and-left (leb j (s .last)) c hb);
+        long = leb→le (i + k * s .period) j (and-left (leb (i + k * s .period) j) (allowed (s .period)) hc);
+        permitted = and-right (leb (i + k * s .period) j) (allowed (s .period)) hc;
+      }
+
+  in-run-complete : Segment allowed k w r i j → T (inRun? allowed k (entryOf (runsOf w) r) i j)
+  in-run-complete S =
+      let s = S .run in
+      let c = leb (i + k * s .period) j && allowed (s .period) in
+      subst (λ (rows : List Row). T (inRun? allowed k rows i j)) (sym (entry-of (runsOf w) r s .1 (S .numbered)))
+      (and-intro (leb (s .first) (i + 1)) (leb j (s .last) && c) (le→leb (s .first) (i + 1) (S .starts))
+      (and-intro (leb j (s .last)) c (le→leb j (s .last) (S .ends))
+      (and-intro (leb (i + k * s .period) j) (allowed (s .period)) (le→leb (i + k * s .period) j (S .long)) (S .permitted))))
+
+  -- CLAIM: the test decides whether the piece is a segment of the run with the number
+  pub segment-decides : T (inRun? allowed k (entryOf (runsOf w) r) i j) ↔ Segment allowed k w r i j
+  segment-decides = (in-run-sound (entryOf (runsOf w) r) refl, in-run-complete)
+
+and-true : (b : Bool) → b ≡ b && true
+and-true true = refl
+and-true false = refl
+
+-- the test, one comparison at a time
+module _ (r : Row) (i j : ℕ) where
+  pub run-starts-later : i + 1 < r .first → false ≡ inRun? anyPeriod turns (r ∷ []) i j
+  run-starts-later h = simp (lt-leb (r .first) (i + 1) h)
+
+  pub run-ends-before : r .first ≤ i + 1 → r .last < j → false ≡ inRun? anyPeriod turns (r ∷ []) i j
+  run-ends-before l h = simp (le-leb (r .first) (i + 1) l, lt-leb j (r .last) h)
+
+  pub run-encloses : r .first ≤ i + 1 → j ≤ r .last → leb (i + turns * r .period) j ≡ inRun? anyPeriod turns (r ∷ []) i j
+  run-encloses l h = rw (le-leb (r .first) (i + 1) l, le-leb j (r .last) h) (and-true (leb (i + turns * r .period) j))
+
+-- the test of block number k + 1, from the run that was looked up
+pub segment-test : (w ns : List ℕ) (k i j : ℕ) (rows : List Row) → k + k + 1 < length ns → rows ≡ entryOf (runsOf w) (getD ns (k + k) 0)
+    → segment? anyPeriod turns w ns (suc k) i j ≡ inRun? anyPeriod turns rows i j
+segment-test w ns k i j rows h e =
+    let f : suc k - 1 ≡ k = omega arith in
+    ap (λ (m : ℕ). inRun? anyPeriod turns (entryOf (runsOf w) (getD (runsOfPairs ns) m 0)) i j) f
+    ∙ ap (λ (m : ℕ). inRun? anyPeriod turns (entryOf (runsOf w) m) i j) (run-given ns k h) ∙ ap (λ (s : List Row). inRun? anyPeriod turns s i j) (sym e)
+
+-- what is left of the ends after k of them, whatever the test
+module _ (block? : ℕ → ℕ → ℕ → Bool) (n k i : ℕ) (ns : List ℕ) where
+  pub path-verdict-more : k + k + 1 < length ns → verdictFrom block? n k i (drop k (endsOfPairs ns)) ≡ verdictFrom block? n k i (getD ns (k + k + 1) 0 ∷ drop (k + 1) (endsOfPairs ns))
+  path-verdict-more h =
+      verdict-more block? n k i (endsOfPairs ns) (omega (arith, length-ends-of-pairs ns))
+      ∙ ap (λ (e : ℕ). verdictFrom block? n k i (e ∷ drop (k + 1) (endsOfPairs ns))) (end-given ns k h)
+
+  pub path-verdict-none-left : length ns ≤ k + k → verdictFrom block? n k i (drop k (endsOfPairs ns)) ≡ verdictFrom block? n k i []
+  path-verdict-none-left h = verdict-none-left block? n k i (endsOfPairs ns) (omega (arith, length-ends-of-pairs ns))
+
+-- ---- accepted exactly when the numbers are segments
+
+clash : (o : Outcome) (x y : ℕ) (v : List ℕ) → o ≡ refused x y → o ≡ accepted v → ⊥
+clash o x y v e d = let z : _≡_ {A = ℕ} 0 1 = cc in omega arith
+
+T-true : (t : Bool) → T t → t ≡ true
+T-true true h = refl
+T-true false h = absurd h
+
+module _ (w : List ℕ) (t : ℕ → ℕ → ℕ → Bool) where
+  -- from block number k + 1 on the test goes by the run numbers of ns
+  abbrev Agrees : ℕ → List ℕ → Type 0
+  Agrees k ns = (m i j : ℕ) → (T (t (suc (k + m)) i j) ↔ Segment anyPeriod turns w (getD (runsOfPairs ns) m 0) i j)
+
+  agrees-first : (k r e : ℕ) (ns : List ℕ) → Agrees k (r ∷ e ∷ ns) → (i j : ℕ) → (T (t (suc k) i j) ↔ Segment anyPeriod turns w r i j)
+  agrees-first k r e ns A i j =
+      let z : k + 0 ≡ k = omega arith in
+      subst (λ (m : ℕ). T (t (suc m) i j) ↔ Segment anyPeriod turns w r i j) z (A 0 i j)
+
+  agrees-rest : (k r e : ℕ) (ns : List ℕ) → Agrees k (r ∷ e ∷ ns) → Agrees (suc k) ns
+  agrees-rest k r e ns A m i j =
+      let z : k + suc m ≡ suc k + m = omega arith in
+      subst (λ (x : ℕ). T (t (suc x) i j) ↔ Segment anyPeriod turns w (getD (runsOfPairs ns) m 0) i j) z (A (suc m) i j)
+
+  accepted-segments : (ns : List ℕ) (k i : ℕ) (v : List ℕ) → length ns % 2 ≡ 0 → Agrees k ns → verdictFrom t (length w) k i (endsOfPairs ns) ≡ accepted v
+      → Segments anyPeriod turns w i ns (length w)
+  accepted-segments [] k i v q A h = go (ℕ-discrete i (length w))
+    where
+      go : Dec (i ≡ length w) → i ≡ length w
+      go (yes z) = z
+      go (no z) = absurd (clash _ 5 0 v (verdict-unfinished t (length w) k i z) h)
+  accepted-segments (r ∷ []) k i v q A h = absurd (omega arith)
+  accepted-segments (r ∷ e ∷ ns) k i v q A h =
+      go (λ g. accepted-segments ns (suc k) e v (omega arith) (agrees-rest k r e ns A) g) (decLt i e) (decLe e (length w)) (t (suc k) i e) refl
+    where
+      es : List ℕ
+      es = endsOfPairs ns
+
+      go : (verdictFrom t (length w) (suc k) e es ≡ accepted v → Segments anyPeriod turns w e ns (length w)) → Dec (i < e) → Dec (e ≤ length w)
+          → (b : Bool) → t (suc k) i e ≡ b → Segment anyPeriod turns w r i e × Segments anyPeriod turns w e ns (length w)
+      go ih (no a) d b z = absurd (clash _ 3 (suc k) v (verdict-low t (length w) k i e es (omega arith)) h)
+      go ih (yes a) (no d) b z = absurd (clash _ 3 (suc k) v (verdict-high t (length w) k i e es (omega arith)) h)
+      go ih (yes a) (yes d) false z = absurd (clash _ 4 (suc k) v (verdict-no-block t (length w) k i e es a d z) h)
+      go ih (yes a) (yes d) true z =
+          (agrees-first k r e ns A i e .0 (subst T (sym z) tt), ih (sym (verdict-block t (length w) k i e es a d z) ∙ h))
+
+  segments-accepted : (ns : List ℕ) (k i : ℕ) → Agrees k ns → Segments anyPeriod turns w i ns (length w)
+      → verdictFrom t (length w) k i (endsOfPairs ns) ≡ accepted ((k + length (endsOfPairs ns)) ∷ [])
+  segments-accepted [] k i A s = verdict-finished t (length w) k i s ∙ ap (λ (x : ℕ). accepted (x ∷ [])) (omega arith)
+  segments-accepted (r ∷ []) k i A s = absurd s
+  segments-accepted (r ∷ e ∷ ns) k i A s =
+      verdict-block t (length w) k i e (endsOfPairs ns) (block-up anyPeriod turns w i e (segment-block anyPeriod turns w (runs-listed w) (omega arith) r i e (s .0)))
+      (segment-within anyPeriod turns w (runs-listed w) r i e (s .0)) (T-true (t (suc k) i e) (agrees-first k r e ns A i e .1 (s .0)))
+      ∙ segments-accepted ns (suc k) e (agrees-rest k r e ns A) (s .1) ∙ ap (λ (x : ℕ). accepted (x ∷ [])) (omega arith)
+
+module _ (w ns : List ℕ) where
+  decides : (m i j : ℕ) → (T (segment? anyPeriod turns w ns m i j) ↔ Segment anyPeriod turns w (numberGiven ns m) i j)
+  decides m i j = segment-decides anyPeriod turns w (numberGiven ns m) i j
+
+  agrees : Agrees w (segment? anyPeriod turns w ns) 0 ns
+  agrees m i j =
+      let z : suc (0 + m) - 1 ≡ m = omega arith in
+      subst (λ (x : ℕ). T (segment? anyPeriod turns w ns (suc (0 + m)) i j) ↔ Segment anyPeriod turns w (getD (runsOfPairs ns) x 0) i j) z (decides (suc (0 + m)) i j)
+
+  -- CLAIM: accepted with the number of blocks, exactly when the numbers encode a path of the word's length
+  pub path-accepted : length ns % 2 ≡ 0
+      → ((verdict (segment? anyPeriod turns w ns) (length w) (endsOfPairs ns) ≡ accepted (length ns / 2 ∷ []))
+      ↔ ((xs : List Node) × Path anyPeriod turns w (length w) xs × (encoding (black 0) xs ≡ ns)))
+  unfolding verdict
+  path-accepted q = (
+    (λ h. encodes anyPeriod turns w (runs-listed w) (length w) ns (accepted-segments w (segment? anyPeriod turns w ns) ns 0 0 (length ns / 2 ∷ []) q agrees h)),
+    (λ p.
+        segments-accepted w (segment? anyPeriod turns w ns) ns 0 0 agrees
+        (subst (λ (ms : List ℕ). Segments anyPeriod turns w 0 ms (length w)) (p .2) (encoded anyPeriod turns w (length w) (p .0) (p .1)))
+        ∙ ap (λ (x : ℕ). accepted (x ∷ [])) (omega (arith, length-ends-of-pairs ns))),
+  )
+
+  pub path-too-long : limit < length w → refused 1 0 ≡ pathJudgedOutcome w ns
+  unfolding pathJudgedOutcome
+  path-too-long h = simp (lt-ltb limit (length w) h)
+
+  pub path-odd : length w ≤ limit → length ns % 2 ≡ 1 → refused 10 0 ≡ pathJudgedOutcome w ns
+  unfolding pathJudgedOutcome
+  path-odd h q = simp (le-ltb limit (length w) h, eq-eqb (length ns % 2) 1 q)
+
+  pub path-judged : length w ≤ limit → (length ns % 2 ≡ 1 → ⊥) → verdict (segment? anyPeriod turns w ns) (length w) (endsOfPairs ns) ≡ pathJudgedOutcome w ns
+  unfolding pathJudgedOutcome
+  path-judged h q = simp (le-ltb limit (length w) h, ne-eqb (length ns % 2) 1 q)
+
+  -- CLAIM: judge a path says what document 01 asks
+  pub path-judged-means : PathJudgedMeaning w ns (pathJudgedOutcome w ns)
+  path-judged-means = go (decLt limit (length w)) (ℕ-discrete (length ns % 2) 1)
+    where
+      go : Dec (limit < length w) → Dec (length ns % 2 ≡ 1) → PathJudgedMeaning w ns (pathJudgedOutcome w ns)
+      go (yes h) d = too-long h (sym (path-too-long h))
+      go (no h) (yes q) = odd (omega arith) q (sym (path-odd (omega arith) q))
+      go (no h) (no q) =
+          judged (omega arith) (omega arith)
+          (subst (PathJudged w ns) (path-judged (omega arith) q)
+          record {
+            verdict-on = verdict-means (segment? anyPeriod turns w ns) (λ m i j. Segment anyPeriod turns w (numberGiven ns m) i j) (λ m i j. decides m i j .0) (λ m i j. decides m i j .1) (length w) (endsOfPairs ns);
+            accepts = path-accepted (omega arith);
+          })
+
+  pub path-judged-answered : (o : Outcome) → o ≡ pathJudgedOutcome w ns → (o ≡ pathJudgedOutcome w ns) × PathJudgedMeaning w ns o
+  path-judged-answered o e = (e, subst (PathJudgedMeaning w ns) (sym e) path-judged-means)
