@@ -211,6 +211,14 @@ pub best-too-long-first : bestOutcome (replicate 4097 97) 0 [] [] ≡ refused 1 
 unfolding bestOutcome
 best-too-long-first = refl
 
+pub best-too-long-ends : bestEndsTable (replicate 4097 97) 1 (7 ∷ []) (9 ∷ []) ≡ 7 ∷ []
+unfolding bestEndsTable
+best-too-long-ends = refl
+
+pub best-too-long-work : bestWork (replicate 4097 97) 1 (9 ∷ []) ≡ 9 ∷ []
+unfolding bestWork
+best-too-long-work = refl
+
 pub best-choice-zero : bestOutcome word-aaaa 0 [] [] ≡ refused 8 0
 unfolding bestOutcome
 best-choice-zero = refl
@@ -237,6 +245,10 @@ best-a-place-short = refl
 pub best-a-place-short-ends : bestEndsTable word-aaaa 2 (7 ∷ []) (replicate 20 9) ≡ 7 ∷ []
 unfolding bestEndsTable cell bestEnds repetition? smallestPeriod
 best-a-place-short-ends = refl
+
+pub best-a-place-short-work : bestWork word-aaaa 2 (replicate 20 9) ≡ 0 ∷ none ∷ 1 ∷ 1 ∷ 2 ∷ replicate 15 0
+unfolding bestWork sizes repetition? smallestPeriod
+best-a-place-short-work = refl
 
 -- ---- judged splits
 
