@@ -1,0 +1,63 @@
+-- Document 01's printout, byte for byte, and the texts of the shortest words and of a word that is too long, computed from the definitions. Assumes nothing.
+use mathlib.Core.Path.{_≡_, refl}
+use mathlib.Core.List.{List, [], _∷_}
+use Prim.Native.Nat.{ℕ}
+use lib.ListN.{replicate}
+use Rattle.answers.specs.Outcome.{accepted, refused}
+use Rattle.periods.specs.Period.{smallestPeriod, repetition?}
+use Rattle.runs.specs.Table.{run?, runBetween, rowsAt, rowsBefore, runsOf}
+use Rattle.factors.specs.Factorization.{cell, bestEnds}
+use Rattle.decimals.specs.Decimal.{digits, digitCount}
+use Rattle.repetitions.specs.Judges.{firstNumber, runNumber}
+use Rattle.report.specs.Text.{refusedText, fieldsOf, line, runLines, blockLine, blockLines, splitText, text, reportOutcome}
+
+abbrev aabaabaa : List ℕ
+aabaabaa = 97 ∷ 97 ∷ 98 ∷ 97 ∷ 97 ∷ 98 ∷ 97 ∷ 97 ∷ []
+
+-- the ten lines, one to a line here
+abbrev tenLines : List ℕ
+tenLines =
+    112 ∷ 97 ∷ 115 ∷ 115 ∷ 101 ∷ 115 ∷ 44 ∷ 56 ∷ 10 ∷
+    114 ∷ 117 ∷ 110 ∷ 44 ∷ 49 ∷ 44 ∷ 49 ∷ 44 ∷ 50 ∷ 44 ∷ 49 ∷ 10 ∷
+    114 ∷ 117 ∷ 110 ∷ 44 ∷ 50 ∷ 44 ∷ 49 ∷ 44 ∷ 56 ∷ 44 ∷ 51 ∷ 10 ∷
+    114 ∷ 117 ∷ 110 ∷ 44 ∷ 51 ∷ 44 ∷ 52 ∷ 44 ∷ 53 ∷ 44 ∷ 49 ∷ 10 ∷
+    114 ∷ 117 ∷ 110 ∷ 44 ∷ 52 ∷ 44 ∷ 55 ∷ 44 ∷ 56 ∷ 44 ∷ 49 ∷ 10 ∷
+    102 ∷ 101 ∷ 119 ∷ 101 ∷ 115 ∷ 116 ∷ 44 ∷ 49 ∷ 10 ∷
+    98 ∷ 108 ∷ 111 ∷ 99 ∷ 107 ∷ 44 ∷ 49 ∷ 44 ∷ 49 ∷ 44 ∷ 56 ∷ 44 ∷ 51 ∷ 44 ∷ 50 ∷ 44 ∷ 50 ∷ 44 ∷ 50 ∷ 10 ∷
+    109 ∷ 111 ∷ 115 ∷ 116 ∷ 44 ∷ 50 ∷ 10 ∷
+    98 ∷ 108 ∷ 111 ∷ 99 ∷ 107 ∷ 44 ∷ 49 ∷ 44 ∷ 49 ∷ 44 ∷ 50 ∷ 44 ∷ 49 ∷ 44 ∷ 50 ∷ 44 ∷ 48 ∷ 44 ∷ 49 ∷ 10 ∷
+    98 ∷ 108 ∷ 111 ∷ 99 ∷ 107 ∷ 44 ∷ 50 ∷ 44 ∷ 51 ∷ 44 ∷ 56 ∷ 44 ∷ 51 ∷ 44 ∷ 50 ∷ 44 ∷ 48 ∷ 44 ∷ 50 ∷ 10 ∷ []
+
+pub text-of-aabaabaa : text aabaabaa ≡ tenLines
+unfolding text line fieldsOf runLines blockLine blockLines splitText digits digitCount runsOf rowsBefore rowsAt runBetween run? repetition? smallestPeriod cell bestEnds runNumber firstNumber
+text-of-aabaabaa = refl
+
+-- passes,0 and fewest,0 and most,0
+pub text-of-empty : text [] ≡
+    112 ∷ 97 ∷ 115 ∷ 115 ∷ 101 ∷ 115 ∷ 44 ∷ 48 ∷ 10 ∷
+    102 ∷ 101 ∷ 119 ∷ 101 ∷ 115 ∷ 116 ∷ 44 ∷ 48 ∷ 10 ∷
+    109 ∷ 111 ∷ 115 ∷ 116 ∷ 44 ∷ 48 ∷ 10 ∷ []
+unfolding text line fieldsOf runLines blockLine blockLines splitText digits digitCount runsOf rowsBefore rowsAt runBetween run? repetition? smallestPeriod cell bestEnds runNumber firstNumber
+text-of-empty = refl
+
+-- passes,1 and fewest,none and most,none
+pub text-of-a : text (97 ∷ []) ≡
+    112 ∷ 97 ∷ 115 ∷ 115 ∷ 101 ∷ 115 ∷ 44 ∷ 49 ∷ 10 ∷
+    102 ∷ 101 ∷ 119 ∷ 101 ∷ 115 ∷ 116 ∷ 44 ∷ 110 ∷ 111 ∷ 110 ∷ 101 ∷ 10 ∷
+    109 ∷ 111 ∷ 115 ∷ 116 ∷ 44 ∷ 110 ∷ 111 ∷ 110 ∷ 101 ∷ 10 ∷ []
+unfolding text line fieldsOf runLines blockLine blockLines splitText digits digitCount runsOf rowsBefore rowsAt runBetween run? repetition? smallestPeriod cell bestEnds runNumber firstNumber
+text-of-a = refl
+
+-- "a longer line prints refused,1 alone"
+pub text-of-1025 : text (replicate 1025 97) ≡ refusedText
+unfolding text
+text-of-1025 = refl
+
+-- the empty word's 25 bytes, and one place too few
+pub report-of-empty : reportOutcome [] 25 ≡ accepted (25 ∷ [])
+unfolding reportOutcome text line fieldsOf runLines blockLine blockLines splitText digits digitCount runsOf rowsBefore rowsAt runBetween run? repetition? smallestPeriod cell bestEnds runNumber firstNumber
+report-of-empty = refl
+
+pub report-a-place-short : reportOutcome [] 24 ≡ refused 7 0
+unfolding reportOutcome text line fieldsOf runLines blockLine blockLines splitText digits digitCount runsOf rowsBefore rowsAt runBetween run? repetition? smallestPeriod cell bestEnds runNumber firstNumber
+report-a-place-short = refl

@@ -1,0 +1,160 @@
+-- The lines of the runs and of the blocks: one more line, and how long they can be; and the finder's record of a block, which is its run. A block has one run that encloses it and
+-- has its unit (repetitions/proofs/PathClaims.antt), so that the first record that the finder meets is that run. Assumes nothing.
+use mathlib.Core.Path.{_≡_, refl, sym, ap, ap₂, _∙_, subst}
+use mathlib.Core.Logic.{_≢_}
+use mathlib.Core.Bool.{Bool, true, false, cond}
+use mathlib.Core.List.{List, [], _∷_, _++_, append-nil, append-assoc}
+use Prim.Native.Nat.{ℕ, zero, suc, _+_, _-_, _*_, _/_, _%_, _≤_, _<_}
+use native.Mathlib.Omega.{arith}
+use native.Mathlib.Numerals.{add-one}
+use lib.Dec.{eqb, eqb·suc-zero}
+use lib.ListN.{length, getD, take, drop, length-append, length-take, drop-of-length-le}
+use lib.Seq.{drop-cons}
+use Rattle.periods.specs.Period.{part, smallestPeriod, anyPeriod, turns}
+use Rattle.periods.proofs.Claims.{smallest-period-is}
+use Rattle.runs.specs.Run.{Row, Entry}
+use Rattle.runs.specs.Table.{stride, runsOf, numbersOf}
+use Rattle.runs.specs.Inner.{records}
+use Rattle.runs.proofs.Rows.{part-long}
+use Rattle.runs.proofs.Records.{recordAt, records-none, records-more, length-records}
+use Rattle.factors.specs.Factorization.{Chain}
+use Rattle.finder.specs.declared.Run.{Run}
+use Rattle.finder.specs.Find.{enclosesb, step, findRun, recordsOf}
+use Rattle.repetitions.specs.Block.{Block}
+use Rattle.repetitions.specs.Judges.{encloses?, firstNumber, runNumber}
+use Rattle.repetitions.proofs.Blocks.{block-up}
+use Rattle.repetitions.proofs.PathClaims.{run-number-segment}
+use Rattle.report.specs.Records.{held, heldRows}
+use Rattle.report.specs.Text.{runName, blockName, line, runLines, blockLine, blockLines}
+use Rattle.report.proofs.Stores.{line-long}
+
+-- ---- runs
+
+pub run-lines-none : (t : List ℕ) → runLines 0 (records 0 t) ≡ []
+unfolding runLines
+run-lines-none t = ap (runLines 0) (records-none t)
+
+run-lines-snoc : (rows : List Row) (r : Row) (i : ℕ) → runLines i (rows ++ (r ∷ [])) ≡ runLines i rows ++ line runName ((i + length rows + 1) ∷ numbersOf r)
+unfolding runLines
+run-lines-snoc [] r i = ap (λ (k : ℕ). line runName (k ∷ numbersOf r) ++ []) {x = suc i} {y = i + 0 + 1} (omega arith) ∙ append-nil (line runName ((i + 0 + 1) ∷ numbersOf r))
+run-lines-snoc (x ∷ rows) r i =
+    let e : suc i + length rows + 1 ≡ i + suc (length rows) + 1 = omega arith in
+    ap (λ (l : List ℕ). line runName (suc i ∷ numbersOf x) ++ l) (run-lines-snoc rows r (suc i) ∙ ap (λ (k : ℕ). runLines (suc i) rows ++ line runName (k ∷ numbersOf r)) e)
+    ∙ sym (append-assoc (line runName (suc i ∷ numbersOf x)) (runLines (suc i) rows) (line runName ((i + suc (length rows) + 1) ∷ numbersOf r)))
+
+-- the line of one more record of a table
+pub run-lines-more : (t : List ℕ) (i : ℕ) → runLines 0 (records i t) ++ line runName ((i + 1) ∷ numbersOf (recordAt t i)) ≡ runLines 0 (records (i + 1) t)
+run-lines-more t i =
+    let e : i + 1 ≡ 0 + length (records i t) + 1 = omega (arith, length-records t i) in
+    ap (λ (k : ℕ). runLines 0 (records i t) ++ line runName (k ∷ numbersOf (recordAt t i))) e
+    ∙ sym (run-lines-snoc (records i t) (recordAt t i) 0)
+    ∙ ap (runLines 0) (sym (records-more t i))
+
+pub run-lines-long : (rows : List Row) (i : ℕ) → length (runLines i rows) ≤ 48 * length rows
+unfolding runLines
+run-lines-long [] i = omega arith
+run-lines-long (r ∷ rows) i =
+    omega (arith, run-lines-long rows (suc i), line-long runName (suc i ∷ numbersOf r), length-append (line runName (suc i ∷ numbersOf r)) (runLines (suc i) rows))
+
+-- ---- blocks
+
+-- a block's line, by its unit and its run number
+pub block-line-is : (w : List ℕ) (k i j unit run : ℕ) → j ≤ length w → unit ≡ smallestPeriod (part w i j) → run ≡ runNumber w i j
+    → line blockName ((k + 1) ∷ (i + 1) ∷ j ∷ unit ∷ ((j - i) / unit) ∷ ((j - i) % unit) ∷ run ∷ []) ≡ blockLine w (k + 1) i j
+unfolding blockLine
+block-line-is w k i j unit run h e f =
+    let p = smallestPeriod (part w i j) in
+    rw (e, f, add-one i)
+    (ap (λ (n : ℕ). line blockName ((k + 1) ∷ suc i ∷ j ∷ p ∷ (n / p) ∷ (n % p) ∷ runNumber w i j ∷ [])) (sym (part-long w i j h)))
+
+-- its unit fits into it
+pub block-unit : (w : List ℕ) (i j unit : ℕ) → Block anyPeriod turns w i j → unit ≡ smallestPeriod (part w i j) → (1 ≤ unit) × (i + unit ≤ j) × (j ≤ length w)
+block-unit w i j unit K e =
+    let u = block-up anyPeriod turns w i j K in
+    let l = part-long w i j (K .0) in
+    let S = smallest-period-is (part w i j) (omega arith) in
+    (omega (arith, S .period .positive), omega (arith, S .period .fits), K .0)
+
+block-line-long : (w : List ℕ) (number i j : ℕ) → length (blockLine w number i j) ≤ 83
+unfolding blockLine
+block-line-long w number i j = line-long blockName _
+
+pub block-lines-long : (w es : List ℕ) (k i : ℕ) → length (blockLines w k i es) ≤ 83 * length es
+unfolding blockLines
+block-lines-long w [] k i = omega arith
+block-lines-long w (e ∷ es) k i =
+    omega (arith, block-lines-long w es (suc k) e, block-line-long w (suc k) i e, length-append (blockLine w (suc k) i e) (blockLines w (suc k) e es))
+
+-- the ends that are left, from place k on
+pub block-lines-more : (w es : List ℕ) (k i : ℕ) → k < length es
+    → blockLines w k i (drop k es) ≡ blockLine w (k + 1) i (getD es k 0) ++ blockLines w (k + 1) (getD es k 0) (drop (k + 1) es)
+unfolding blockLines
+block-lines-more w es k i h = ap (blockLines w k i) (drop-cons es k 0 h) ∙ rw (add-one k) refl
+
+pub block-lines-done : (w es : List ℕ) (k i : ℕ) → length es ≤ k → blockLines w k i (drop k es) ≡ []
+unfolding blockLines
+block-lines-done w es k i h = rw (drop-of-length-le es {i = k} h) refl
+
+pub chain-more : (B : ℕ → ℕ → Type 0) (es : List ℕ) (k i m : ℕ) → k < length es → Chain B i (drop k es) m
+    → B i (getD es k 0) × Chain B (getD es k 0) (drop (k + 1) es) m
+chain-more B es k i m h c = rw (add-one k) (subst (λ (l : List ℕ). Chain B i l m) (drop-cons es k 0 h) c)
+
+-- ---- the record of a block
+
+find-most : (rs : List Run) (first last p : ℕ) → findRun rs first last p ≤ length rs
+find-most [] first last p = omega arith
+find-most (r ∷ rs) first last p = go (enclosesb (r .first) (r .last) (r .period) first last p) (find-most rs first last p)
+  where
+    go : (b : Bool) → findRun rs first last p ≤ length rs → step b (findRun rs first last p) ≤ suc (length rs)
+    go true h = omega arith
+    go false h = omega arith
+
+-- the finder counts from 0, the numbers of the runs from 1
+find-first : (i j p : ℕ) (rows : List Row) → firstNumber (encloses? i j p) rows ≢ 0
+    → findRun (heldRows rows) (i + 1) j p + 1 ≡ firstNumber (encloses? i j p) rows
+unfolding firstNumber
+find-first i j p [] h = absurd (h refl)
+find-first i j p (r ∷ rs) h = go (find-first i j p rs) (encloses? i j p r) h
+  where
+    later : (m : ℕ) → (m ≢ 0 → findRun (heldRows rs) (i + 1) j p + 1 ≡ m) → cond (eqb m 0) 0 (suc m) ≢ 0
+        → suc (findRun (heldRows rs) (i + 1) j p) + 1 ≡ cond (eqb m 0) 0 (suc m)
+    later zero ih k = absurd (k refl)
+    later (suc m) ih k = rw (eqb·suc-zero m) (omega (arith, ih (λ e. omega arith)))
+
+    go : (firstNumber (encloses? i j p) rs ≢ 0 → findRun (heldRows rs) (i + 1) j p + 1 ≡ firstNumber (encloses? i j p) rs) → (b : Bool)
+        → cond b 1 (cond (eqb (firstNumber (encloses? i j p) rs) 0) 0 (suc (firstNumber (encloses? i j p) rs))) ≢ 0
+        → step b (findRun (heldRows rs) (i + 1) j p) + 1 ≡ cond b 1 (cond (eqb (firstNumber (encloses? i j p) rs) 0) 0 (suc (firstNumber (encloses? i j p) rs)))
+    go ih true k = refl
+    go ih false k = later (firstNumber (encloses? i j p) rs) ih k
+
+-- CLAIM: the first record that encloses a block and has its unit is the block's run
+pub find-is-run-number : (w : List ℕ) (i j : ℕ) → Block anyPeriod turns w i j
+    → findRun (heldRows (runsOf w)) (i + 1) j (smallestPeriod (part w i j)) + 1 ≡ runNumber w i j
+unfolding runNumber
+find-is-run-number w i j K =
+    let S = run-number-segment w i j K in
+    find-first i j (smallestPeriod (part w i j)) (runsOf w) (λ e. subst (λ (n : ℕ). Entry (runsOf w) n (S .run)) e (S .numbered))
+
+-- the same for what the finder gives over the records that are held
+pub found-is-run-number : (w : List ℕ) (rs : List Run) (count i j unit found : ℕ) → Block anyPeriod turns w i j → take count rs ≡ heldRows (runsOf w)
+    → unit ≡ smallestPeriod (part w i j) → found ≡ findRun (take count rs) (i + 1) j unit → found + 1 ≡ runNumber w i j
+found-is-run-number w rs count i j unit found K h e f =
+    ap (λ (n : ℕ). n + 1) (f ∙ ap₂ (λ (l : List Run) (p : ℕ). findRun l (i + 1) j p) h e) ∙ find-is-run-number w i j K
+
+-- it is among them
+pub found-most : (rs : List Run) (count first last p found : ℕ) → found ≡ findRun (take count rs) first last p → found ≤ count
+found-most rs count first last p found e = omega (arith, e, find-most (take count rs) first last p, length-take count rs)
+
+-- the records that the finder holds of a table
+pub records-held : (t : List ℕ) (c : ℕ) → recordsOf t c ≡ heldRows (records c t)
+unfolding records
+records-held t zero = refl
+records-held t (suc c) =
+    let e : c * 3 ≡ stride * c = omega arith in
+    ap (λ (l : List Run). l ++ (record { first = getD t (c * 3) 0; last = getD t (c * 3 + 1) 0; period = getD t (c * 3 + 2) 0 } ∷ [])) (records-held t c)
+    ∙ ap (λ (k : ℕ). heldRows (records c t) ++ (record { first = getD t k 0; last = getD t (k + 1) 0; period = getD t (k + 2) 0 } ∷ [])) e
+    ∙ sym (held-append (records c t) (recordAt t c ∷ []))
+  where
+    held-append : (xs ys : List Row) → heldRows (xs ++ ys) ≡ heldRows xs ++ heldRows ys
+    held-append [] ys = refl
+    held-append (x ∷ xs) ys = ap (λ (l : List Run). held x ∷ l) (held-append xs ys)

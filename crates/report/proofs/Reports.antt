@@ -1,0 +1,147 @@
+-- The report by its tests, and what it says: `report-means`. The runs call refuses a word that the program holds only if it has more runs than there are records, and else leaves
+-- the records of its runs. Assumes nothing.
+use mathlib.Core.Path.{_≡_, refl, sym, ap, _∙_}
+use mathlib.Core.List.{List, [], _∷_, _++_}
+use Prim.Native.Nat.{ℕ, _*_, _≤_, _<_}
+use native.Mathlib.Omega.{arith}
+use native.Mathlib.Decide.{decLt}
+use borrow.Author.Tests.{lt-ltb, le-ltb}
+use lib.ListN.{length, drop, length-append, length-drop}
+use Rattle.answers.specs.declared.Counted.{Counted}
+use Rattle.answers.specs.declared.Counted.the-variants.{Count, Refused}
+use Rattle.answers.specs.declared.Refusal.{Refusal}
+use Rattle.answers.specs.Outcome.{Outcome, accepted, refused, refusal, countedView, limit}
+use Rattle.periods.specs.Period.{anyPeriod, turns}
+use Rattle.runs.specs.Table.{runsOf, stride, flat}
+use Rattle.runs.specs.Inner.{records}
+use Rattle.runs.specs.Calls.{runsOutcome, runsTable}
+use Rattle.runs.proofs.Rows.{length-flat, sets-front}
+use Rattle.runs.proofs.Records.{records-left}
+use Rattle.runs.proofs.Listed.{runs-listed}
+use Rattle.factors.specs.Factorization.{choiceOf, Cell, unreachable, reached}
+use Rattle.factors.proofs.Optimal.{Answers}
+use Rattle.repetitions.specs.Block.{Block}
+use Rattle.repetitions.specs.BestSplit.{lastCell}
+use Rattle.repetitions.proofs.BestClaims.{word-answers}
+use Rattle.report.specs.Text.{programLimit, recordLimit, fewestName, mostName, refusedText, splitLines, splitText, text, reportOutcome, reportTable}
+use Rattle.report.specs.Records.{longestText, printedOutcome, printedTable}
+use Rattle.report.specs.Meaning.{SplitPrinted, none-printed, best-printed, Printed, refused-alone, all-lines, ReportMeaning, too-many-runs, too-few, reported}
+use Rattle.report.proofs.Splits.{endsOf, text-is, text-long}
+
+-- ---- the runs call
+
+module _ (w z : List ℕ) (held : length w ≤ programLimit) (places : length z ≡ stride * recordLimit) where
+  pub runs-refused : (a : Counted) (r : Refusal) → a ≡ Refused r → countedView a ≡ runsOutcome w (length z) → recordLimit < length (runsOf w)
+  unfolding runsOutcome
+  runs-refused a r is f = go (ap countedView (sym is) ∙ f) (decLt (length z) (stride * length (runsOf w)))
+    where
+      go : refusal r ≡ runsOutcome w (length z) → Dec (length z < stride * length (runsOf w)) → recordLimit < length (runsOf w)
+      go f (yes h) = omega arith
+      go f (no h) =
+          let e : refusal r ≡ accepted (length (runsOf w) ∷ []) = rw (le-ltb limit (length w) (omega arith), le-ltb (length z) (stride * length (runsOf w)) (omega arith)) at f in
+          absurd (let o : _≡_ {A = ℕ} 0 1 = cc in omega arith)
+
+  pub runs-counted : (a : Counted) (count : ℕ) → a ≡ Count count → countedView a ≡ runsOutcome w (length z) → (u : List ℕ) → u ≡ runsTable w z
+      → (count ≤ recordLimit) × (stride * count ≤ length u) × (records count u ≡ runsOf w)
+  unfolding runsOutcome runsTable
+  runs-counted a count is f u g = go (ap countedView (sym is) ∙ f) (decLt (length z) (stride * length (runsOf w)))
+    where
+      go : accepted (count ∷ []) ≡ runsOutcome w (length z) → Dec (length z < stride * length (runsOf w)) → (count ≤ recordLimit) × (stride * count ≤ length u) × (records count u ≡ runsOf w)
+      go f (yes h) =
+          let e : accepted (count ∷ []) ≡ refused 7 0 = rw (le-ltb limit (length w) (omega arith), lt-ltb (length z) (stride * length (runsOf w)) h) at f in
+          absurd (let o : _≡_ {A = ℕ} 0 1 = cc in omega arith)
+      go f (no h) =
+          let e : accepted (count ∷ []) ≡ accepted (length (runsOf w) ∷ []) = rw (le-ltb limit (length w) (omega arith), le-ltb (length z) (stride * length (runsOf w)) (omega arith)) at f in
+          let n : count ≡ length (runsOf w) = cc in
+          let t : u ≡ flat (runsOf w) ++ drop (stride * length (runsOf w)) z = rw (le-ltb limit (length w) (omega arith), le-ltb (length z) (stride * length (runsOf w)) (omega arith)) at g in
+          let l : length (flat (runsOf w)) ≡ stride * length (runsOf w) = length-flat (runsOf w) in
+          let front = sets-front z (flat (runsOf w)) (omega arith) in (
+            omega arith,
+            omega (arith, ap length t, length-append (flat (runsOf w)) (drop (stride * length (runsOf w)) z), length-drop (stride * length (runsOf w)) z),
+            records-left (runsOf w) z u count (omega arith) (t ∙ ap (λ (k : ℕ). flat (runsOf w) ++ drop k z) (sym l) ∙ sym front) (omega arith),
+          )
+
+-- ---- the report, by its tests
+
+module _ (w t : List ℕ) where
+  -- what it promises
+  abbrev pub Promised : Outcome → List ℕ → Type 0
+  Promised o u = (o ≡ reportOutcome w (length t)) × (u ≡ reportTable w t)
+
+  pub promised-long : programLimit < length w → Promised (printedOutcome refusedText (length t)) (printedTable refusedText t)
+  unfolding reportOutcome reportTable text
+  promised-long h = rw (lt-ltb programLimit (length w) h) (refl, refl)
+
+  pub promised-many : length w ≤ programLimit → recordLimit < length (runsOf w) → Promised (refused 7 0) t
+  unfolding reportOutcome reportTable
+  promised-many h k = rw (le-ltb programLimit (length w) h, lt-ltb recordLimit (length (runsOf w)) k) (refl, refl)
+
+  pub promised-printed : length w ≤ programLimit → length (runsOf w) ≤ recordLimit → Promised (printedOutcome (text w) (length t)) (printedTable (text w) t)
+  unfolding reportOutcome reportTable
+  promised-printed h k = rw (le-ltb programLimit (length w) h, le-ltb recordLimit (length (runsOf w)) k) (refl, refl)
+
+-- ---- what it means
+
+split-printed : (w : List ℕ) (choice : ℕ) (name : List ℕ) → SplitPrinted w (choiceOf choice) name (splitText w choice name)
+unfolding splitText
+split-printed w choice name = go (lastCell w choice) (word-answers (choiceOf choice) w (length w))
+  where
+    go : (v : Cell) → Answers (choiceOf choice) (Block anyPeriod turns w) (length w) v (endsOf w choice) → SplitPrinted w (choiceOf choice) name (splitLines w name v (endsOf w choice))
+    go unreachable A = none-printed A refl
+    go (reached s p) A = best-printed (endsOf w choice) (rw (A .sized) A) (rw (A .sized) refl)
+
+text-refused : (w : List ℕ) → programLimit < length w → text w ≡ refusedText
+unfolding text
+text-refused w h = rw (lt-ltb programLimit (length w) h) refl
+
+-- CLAIM: the text has the lines that document 01 asks
+pub text-printed : (w : List ℕ) → Printed w (text w)
+text-printed w = go (decLt programLimit (length w))
+  where
+    go : Dec (programLimit < length w) → Printed w (text w)
+    go (yes h) = refused-alone h (text-refused w h)
+    go (no h) =
+        all-lines (omega arith) (runsOf w) (runs-listed w) (splitText w 1 fewestName) (splitText w 2 mostName) (split-printed w 1 fewestName) (split-printed w 2 mostName)
+        (text-is w (omega arith))
+
+module _ (w t : List ℕ) where
+  -- a text that is printed where there is room
+  printed-means : (s : List ℕ) → Printed w s → ReportMeaning w t (printedOutcome s (length t)) (printedTable s t)
+  printed-means s P = go (decLt (length t) (length s))
+    where
+      go : Dec (length t < length s) → ReportMeaning w t (printedOutcome s (length t)) (printedTable s t)
+      go (yes h) = rw (lt-ltb (length t) (length s) h) (too-few s P h refl refl)
+      go (no h) = rw (le-ltb (length t) (length s) (omega arith)) (reported s P (omega arith) refl refl)
+
+  -- CLAIM: the report is the text, or 7 where there is no room for it or more runs than records
+  pub report-means : ReportMeaning w t (reportOutcome w (length t)) (reportTable w t)
+  report-means = go (decLt programLimit (length w)) (decLt recordLimit (length (runsOf w)))
+    where
+      by : {o : Outcome} {u : List ℕ} → Promised w t o u → ReportMeaning w t o u → ReportMeaning w t (reportOutcome w (length t)) (reportTable w t)
+      by P M = rw (← P .0, ← P .1) M
+
+      go : Dec (programLimit < length w) → Dec (recordLimit < length (runsOf w)) → ReportMeaning w t (reportOutcome w (length t)) (reportTable w t)
+      go (yes h) k = by (promised-long w t h) (printed-means refusedText (refused-alone h refl))
+      go (no h) (yes k) = by (promised-many w t (omega arith) k) (too-many-runs (omega arith) (runsOf w) (runs-listed w) k refl refl)
+      go (no h) (no k) = by (promised-printed w t (omega arith) (omega arith)) (printed-means (text w) (text-printed w))
+
+  -- what the call ensures
+  pub report-answered : (o : Outcome) (u : List ℕ) → Promised w t o u → (o ≡ reportOutcome w (length t)) × ((u ≡ reportTable w t) × ReportMeaning w t o u)
+  report-answered o u P = (P .0, (P .1, rw (P .0, P .1) report-means))
+
+  -- CLAIM: in so many places it answers 7 only where there are more runs than records
+  pub report-fits : length (runsOf w) ≤ recordLimit → longestText ≤ length t → reportOutcome w (length t) ≡ accepted (length (text w) ∷ [])
+  report-fits k h = go (decLt programLimit (length w))
+    where
+      fits : (s : List ℕ) → length s ≤ longestText → printedOutcome s (length t) ≡ accepted (length s ∷ [])
+      fits s l = rw (le-ltb (length t) (length s) (omega arith)) refl
+
+      go : Dec (programLimit < length w) → reportOutcome w (length t) ≡ accepted (length (text w) ∷ [])
+      go (yes l) = sym (promised-long w t l .0) ∙ fits refusedText (omega arith) ∙ ap (λ (s : List ℕ). accepted (length s ∷ [])) (sym (text-refused w l))
+      go (no l) = sym (promised-printed w t (omega arith) k .0) ∙ fits (text w) (text-long w (omega arith) k)
+
+-- an answer of so many bytes has them in the lent table
+pub reported-count : (w t u : List ℕ) (n : ℕ) → ReportMeaning w t (accepted (n ∷ [])) u → n ≤ length t
+reported-count w t u n (too-many-runs a b c d e f) = absurd (let o : _≡_ {A = ℕ} 0 1 = cc in omega arith)
+reported-count w t u n (too-few s P a e f) = absurd (let o : _≡_ {A = ℕ} 0 1 = cc in omega arith)
+reported-count w t u n (reported s P a e f) = let q : n ≡ length s = cc in omega arith

@@ -1,0 +1,125 @@
+-- What best split answers of a word that the program holds: 1, 8, 9 and 7 are never met, since a block has two symbols at least; so a refusal says that there is no split, and an
+-- answer gives the ends. And how long the text can be. Assumes nothing.
+use mathlib.Core.Path.{_≡_, refl, sym, ap, _∙_}
+use mathlib.Core.List.{List, [], _∷_, _++_}
+use Prim.Native.Nat.{ℕ, _+_, _-_, _*_, _≤_}
+use native.Mathlib.Omega.{arith}
+use borrow.Author.Tests.{le-ltb}
+use lib.ListN.{length, take, drop, length-append}
+use lib.Seq.{take-at}
+use Rattle.answers.specs.declared.Counted.{Counted}
+use Rattle.answers.specs.declared.Counted.the-variants.{Count, Refused}
+use Rattle.answers.specs.declared.Refusal.{Refusal}
+use Rattle.answers.specs.Outcome.{accepted, refusal, countedView}
+use Rattle.periods.specs.Period.{anyPeriod, turns}
+use Rattle.runs.specs.Table.{runsOf}
+use Rattle.factors.specs.Factorization.{Factorization, choiceOf, Cell, unreachable, reached, bestEnds}
+use Rattle.factors.specs.Table.{rows}
+use Rattle.factors.proofs.Optimal.{Answers}
+use Rattle.repetitions.specs.Block.{Block, block?}
+use Rattle.repetitions.specs.BestSplit.{sizeOutcome, sizeEnds, lastCell, bestOutcome, bestEndsTable}
+use Rattle.repetitions.proofs.Blocks.{half}
+use Rattle.repetitions.proofs.BestClaims.{word-answers, promised-settled}
+use Rattle.report.specs.Text.{programLimit, recordLimit, passesName, fewestName, mostName, noneText, line, runLines, blockLines, splitLines, splitText, text}
+use Rattle.report.specs.Records.{longestText}
+use Rattle.report.proofs.Stores.{line-long}
+use Rattle.report.proofs.Lines.{run-lines-long, block-lines-long}
+
+-- as many places as there can be blocks
+abbrev pub mostBlocks : ℕ
+mostBlocks = 512
+
+-- the ends of the best split
+abbrev pub endsOf : List ℕ → ℕ → List ℕ
+endsOf w choice = bestEnds (choiceOf choice) (block? anyPeriod turns w) (length w)
+
+-- a split has at most half as many blocks as the word has symbols
+pub split-half : (w es : List ℕ) → Factorization (Block anyPeriod turns w) (length w) es → 2 * length es ≤ length w
+split-half w es F = omega (arith, half anyPeriod turns w (omega arith) 0 es (length w) F)
+
+-- an answer of so many blocks, with the ends' table x
+pub record Blocked (w : List ℕ) (choice : ℕ) (name : List ℕ) (size : ℕ) (x : List ℕ) : Type 0 where
+  pub split : Factorization (Block anyPeriod turns w) (length w) (endsOf w choice)
+  pub few : 2 * size ≤ length w
+  pub ends : take (size - 0) x ≡ endsOf w choice
+  pub lines : line name (size ∷ []) ++ blockLines w 0 0 (endsOf w choice) ≡ splitText w choice name
+
+module _ (w : List ℕ) (choice : ℕ) (name e t : List ℕ) (held : length w ≤ programLimit) (low : 1 ≤ choice) (high : choice ≤ 2) (places : length e ≡ mostBlocks) (long : length t ≡ rows * (programLimit + 1)) where
+  room : rows * (length w + 1) ≤ length t
+  room = omega arith
+
+  pub split-refused : (a : Counted) (r : Refusal) → a ≡ Refused r → countedView a ≡ bestOutcome w choice e t → name ++ noneText ≡ splitText w choice name
+  unfolding splitText
+  split-refused a r is f =
+      go (lastCell w choice) (word-answers (choiceOf choice) w (length w)) (ap countedView (sym is) ∙ f ∙ sym (promised-settled w choice e t (omega arith) low high room .answer))
+    where
+      go : (v : Cell) → Answers (choiceOf choice) (Block anyPeriod turns w) (length w) v (endsOf w choice) → refusal r ≡ sizeOutcome v (length e)
+          → name ++ noneText ≡ splitLines w name v (endsOf w choice)
+      go unreachable A f = refl
+      go (reached s p) A f =
+          let k : s ≤ length e = omega (arith, split-half w (endsOf w choice) (A .factorization), A .sized) in
+          let z : refusal r ≡ accepted (s ∷ []) = rw (le-ltb (length e) s k) at f in
+          absurd (let o : _≡_ {A = ℕ} 0 1 = cc in omega arith)
+
+  pub split-counted : (a : Counted) (size : ℕ) → a ≡ Count size → countedView a ≡ bestOutcome w choice e t → (x : List ℕ) → x ≡ bestEndsTable w choice e t → Blocked w choice name size x
+  unfolding splitText
+  split-counted a size is f x g =
+      let P = promised-settled w choice e t (omega arith) low high room in
+      go (lastCell w choice) refl (word-answers (choiceOf choice) w (length w)) (ap countedView (sym is) ∙ f ∙ sym (P .answer)) (g ∙ sym (P .ends))
+    where
+      go : (v : Cell) → lastCell w choice ≡ v → Answers (choiceOf choice) (Block anyPeriod turns w) (length w) v (endsOf w choice) → accepted (size ∷ []) ≡ sizeOutcome v (length e)
+          → x ≡ sizeEnds v (endsOf w choice) e → Blocked w choice name size x
+      go unreachable c A f g = absurd (let o : _≡_ {A = ℕ} 0 1 = cc in omega arith)
+      go (reached s p) c A f g =
+          let k : s ≤ length e = omega (arith, split-half w (endsOf w choice) (A .factorization), A .sized) in
+          let z : accepted (size ∷ []) ≡ accepted (s ∷ []) = rw (le-ltb (length e) s k) at f in
+          let y : size ≡ s = cc in
+          let q : size - 0 ≡ s = omega arith in
+          let h : x ≡ endsOf w choice ++ drop s e = rw (le-ltb (length e) s k) at g in
+          record {
+            split = A .factorization;
+            few = omega (arith, split-half w (endsOf w choice) (A .factorization), A .sized);
+            ends = rw (q, h) (take-at (endsOf w choice) (drop s e) s (A .sized));
+            lines = rw (c, y) refl;
+          }
+
+-- ---- how long the text can be
+
+pub text-is : (w : List ℕ) → length w ≤ programLimit
+    → text w ≡ line passesName (length w ∷ []) ++ (runLines 0 (runsOf w) ++ (splitText w 1 fewestName ++ splitText w 2 mostName))
+unfolding text
+text-is w h = rw (le-ltb programLimit (length w) h) refl
+
+pub split-long : (w : List ℕ) (choice : ℕ) (name : List ℕ) → length w ≤ programLimit → length name ≤ 6 → length (splitText w choice name) ≤ 42514
+unfolding splitText
+split-long w choice name h k = go (lastCell w choice) (word-answers (choiceOf choice) w (length w))
+  where
+    go : (v : Cell) → Answers (choiceOf choice) (Block anyPeriod turns w) (length w) v (endsOf w choice) → length (splitLines w name v (endsOf w choice)) ≤ 42514
+    go unreachable A = omega (arith, length-append name noneText)
+    go (reached s p) A =
+        omega (
+          arith,
+          length-append (line name (s ∷ [])) (blockLines w 0 0 (endsOf w choice)),
+          line-long name (s ∷ []),
+          block-lines-long w (endsOf w choice) 0 0,
+          split-half w (endsOf w choice) (A .factorization),
+        )
+
+-- CLAIM: no text is longer
+pub text-long : (w : List ℕ) → length w ≤ programLimit → length (runsOf w) ≤ recordLimit → length (text w) ≤ longestText
+text-long w h k =
+    let A = line passesName (length w ∷ []) in
+    let R = runLines 0 (runsOf w) in
+    let F = splitText w 1 fewestName in
+    let M = splitText w 2 mostName in
+    omega (
+      arith,
+      ap length (text-is w h),
+      length-append A (R ++ (F ++ M)),
+      length-append R (F ++ M),
+      length-append F M,
+      line-long passesName (length w ∷ []),
+      run-lines-long (runsOf w) 0,
+      split-long w 1 fewestName h (omega arith),
+      split-long w 2 mostName h (omega arith),
+    )

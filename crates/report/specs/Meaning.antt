@@ -1,0 +1,29 @@
+-- What the printed text and the report say, in words.
+use mathlib.Core.Path.{_≡_}
+use mathlib.Core.List.{List, [], _∷_, _++_}
+use Prim.Native.Nat.{ℕ, _≤_, _<_}
+use lib.ListN.{length, drop}
+use Rattle.answers.specs.Outcome.{Outcome, accepted, refused}
+use Rattle.periods.specs.Period.{anyPeriod, turns}
+use Rattle.runs.specs.Run.{Row, Lists}
+use Rattle.factors.specs.Factorization.{Factorization, Choice, smallest, largest, size, Best}
+use Rattle.repetitions.specs.Block.{Block}
+use Rattle.report.specs.Text.{programLimit, recordLimit, passesName, fewestName, mostName, noneText, refusedText, line, runLines, blockLines}
+
+-- "fewest with its size and then its blocks, and most in the same way"; "With no split it prints fewest,none and most,none."
+pub data SplitPrinted (w : List ℕ) (c : Choice) (name s : List ℕ) : Type 0 where
+  none-printed : ((es : List ℕ) → Factorization (Block anyPeriod turns w) (length w) es → ⊥) → s ≡ name ++ noneText → SplitPrinted w c name s
+  best-printed : (es : List ℕ) → Best c (Block anyPeriod turns w) (length w) (size es) es → s ≡ line name (size es ∷ []) ++ blockLines w 0 0 es → SplitPrinted w c name s
+
+-- "The lines are passes with n, each run in order, fewest ..., and most in the same way."
+pub data Printed (w s : List ℕ) : Type 0 where
+  refused-alone : programLimit < length w → s ≡ refusedText → Printed w s
+  all-lines :
+      length w ≤ programLimit → (rows : List Row) → Lists w rows → (fewest most : List ℕ) → SplitPrinted w smallest fewestName fewest → SplitPrinted w largest mostName most
+      → s ≡ line passesName (length w ∷ []) ++ (runLines 0 rows ++ (fewest ++ most)) → Printed w s
+
+-- t is the lent table of bytes at entry, u at exit
+pub data ReportMeaning (w t : List ℕ) (o : Outcome) (u : List ℕ) : Type 0 where
+  too-many-runs : length w ≤ programLimit → (rows : List Row) → Lists w rows → recordLimit < length rows → o ≡ refused 7 0 → u ≡ t → ReportMeaning w t o u
+  too-few : (s : List ℕ) → Printed w s → length t < length s → o ≡ refused 7 0 → u ≡ t → ReportMeaning w t o u
+  reported : (s : List ℕ) → Printed w s → length s ≤ length t → o ≡ accepted (length s ∷ []) → u ≡ s ++ drop (length s) t → ReportMeaning w t o u

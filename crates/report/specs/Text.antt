@@ -1,0 +1,112 @@
+-- The printed text of the bench program: "The lines are passes with n, each run in order, fewest with its size and then its blocks, and most in the same way. Each line ends
+-- with byte 10, and its numbers have no leading zeros."
+use mathlib.Core.Bool.{Bool, cond}
+use mathlib.Core.List.{List, [], _∷_, _++_}
+use Prim.Native.Nat.{ℕ, suc, _/_, _%_}
+use lib.Dec.{ltb}
+use lib.ListN.{length, drop}
+use Rattle.answers.specs.declared.Refusal.the-variants.{TooFewPlaces}
+use Rattle.answers.specs.Outcome.{Outcome, accepted, refusal}
+use Rattle.periods.specs.Period.{part, smallestPeriod, anyPeriod, turns}
+use Rattle.runs.specs.Run.{Row}
+use Rattle.runs.specs.Table.{runsOf, numbersOf}
+use Rattle.factors.specs.Factorization.{choiceOf, Cell, unreachable, reached, bestEnds}
+use Rattle.decimals.specs.Decimal.{plain}
+use Rattle.repetitions.specs.Block.{block?}
+use Rattle.repetitions.specs.BestSplit.{lastCell}
+use Rattle.repetitions.specs.Judges.{runNumber}
+
+-- "The program holds 1,024 passes"
+abbrev pub programLimit : ℕ
+programLimit = 1024
+
+-- and so many run records
+abbrev pub recordLimit : ℕ
+recordLimit = 1024
+
+abbrev pub comma : ℕ
+comma = 44
+
+abbrev pub lineEnd : ℕ
+lineEnd = 10
+
+-- p a s s e s
+abbrev pub passesName : List ℕ
+passesName = 112 ∷ 97 ∷ 115 ∷ 115 ∷ 101 ∷ 115 ∷ []
+
+-- r u n
+abbrev pub runName : List ℕ
+runName = 114 ∷ 117 ∷ 110 ∷ []
+
+-- f e w e s t
+abbrev pub fewestName : List ℕ
+fewestName = 102 ∷ 101 ∷ 119 ∷ 101 ∷ 115 ∷ 116 ∷ []
+
+-- m o s t
+abbrev pub mostName : List ℕ
+mostName = 109 ∷ 111 ∷ 115 ∷ 116 ∷ []
+
+-- b l o c k
+abbrev pub blockName : List ℕ
+blockName = 98 ∷ 108 ∷ 111 ∷ 99 ∷ 107 ∷ []
+
+-- , n o n e and byte 10
+abbrev pub noneText : List ℕ
+noneText = 44 ∷ 110 ∷ 111 ∷ 110 ∷ 101 ∷ 10 ∷ []
+
+-- r e f u s e d , 1 and byte 10
+abbrev pub refusedText : List ℕ
+refusedText = 114 ∷ 101 ∷ 102 ∷ 117 ∷ 115 ∷ 101 ∷ 100 ∷ 44 ∷ 49 ∷ 10 ∷ []
+
+-- numbers, each with a comma before it
+unfoldable pub fieldsOf : List ℕ → List ℕ
+fieldsOf [] = []
+fieldsOf (x ∷ xs) = comma ∷ (plain x ++ fieldsOf xs)
+
+-- a line
+unfoldable pub line : List ℕ → List ℕ → List ℕ
+line name xs = name ++ (fieldsOf xs ++ (lineEnd ∷ []))
+
+-- "Run: number, first, last, unit." The lines of the runs from number i + 1 on
+unfoldable pub runLines : ℕ → List Row → List ℕ
+runLines i [] = []
+runLines i (r ∷ rs) = line runName (suc i ∷ numbersOf r) ++ runLines (suc i) rs
+
+-- "Block: number, first, last, unit, turns, rest, run number." The block between boundaries i and j
+unfoldable pub blockLine : List ℕ → ℕ → ℕ → ℕ → List ℕ
+blockLine w number i j =
+    let s = part w i j in
+    line blockName
+    (number ∷ suc i ∷ j ∷ smallestPeriod s ∷ length s / smallestPeriod s ∷ length s % smallestPeriod s ∷ runNumber w i j ∷ [])
+
+-- those of the blocks after boundary i, from number k + 1 on
+unfoldable pub blockLines : List ℕ → ℕ → ℕ → List ℕ → List ℕ
+blockLines w k i [] = []
+blockLines w k i (e ∷ es) = blockLine w (suc k) i e ++ blockLines w (suc k) e es
+
+-- a best split: its size and its blocks; "With no split it prints fewest,none and most,none."
+abbrev pub splitLines : List ℕ → List ℕ → Cell → List ℕ → List ℕ
+splitLines w name unreachable ends = name ++ noneText
+splitLines w name (reached s p) ends = line name (s ∷ []) ++ blockLines w 0 0 ends
+
+unfoldable pub splitText : List ℕ → ℕ → List ℕ → List ℕ
+splitText w choice name = splitLines w name (lastCell w choice) (bestEnds (choiceOf choice) (block? anyPeriod turns w) (length w))
+
+-- "a longer line prints refused,1 alone"
+unfoldable pub text : List ℕ → List ℕ
+text w =
+    cond (ltb programLimit (length w)) refusedText
+    (line passesName (length w ∷ []) ++ (runLines 0 (runsOf w) ++ (splitText w 1 fewestName ++ splitText w 2 mostName)))
+
+-- ---- the report: the text in lent bytes, with their count; 7 where there are too few, or more runs than the program holds records of
+
+-- more runs than records, in a word that the program holds
+abbrev pub tooMany : List ℕ → Bool
+tooMany w = cond (ltb programLimit (length w)) Bool.false (ltb recordLimit (length (runsOf w)))
+
+unfoldable pub reportOutcome : List ℕ → ℕ → Outcome
+reportOutcome w places =
+    cond (tooMany w) (refusal TooFewPlaces) (cond (ltb places (length (text w))) (refusal TooFewPlaces) (accepted (length (text w) ∷ [])))
+
+unfoldable pub reportTable : List ℕ → List ℕ → List ℕ
+reportTable w t = cond (tooMany w) t (cond (ltb (length t) (length (text w))) t (text w ++ drop (length (text w)) t))

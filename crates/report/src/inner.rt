@@ -1,0 +1,248 @@
+// For the library's own crates: the caller shows what each function requires. Every writer stores
+// from place at on, as far as there are bytes, and gives the place after what it wrote; so a first
+// pass over no bytes counts, and a second writes.
+ghost use mathlib.Core.Path.{_≡_};
+ghost use mathlib.Core.List.{_∷_};
+ghost use Prim.Native.Nat.{_≤_, _<_, _+_, _*_, _^_};
+ghost use lib.ListN.{length, take, set};
+ghost use lib.Seq.{sets};
+ghost use Rattle.answers.specs.Outcome.{countedView};
+ghost use Rattle.periods.specs.Period.{anyPeriod, turns};
+ghost use Rattle.runs.specs.Table.{stride, runsOf};
+ghost use Rattle.runs.specs.Inner.{records};
+ghost use Rattle.factors.specs.Factorization.{Factorization};
+ghost use Rattle.decimals.specs.Decimal.{plain};
+ghost use Rattle.repetitions.specs.Block.{Block};
+ghost use Rattle.report.specs.Text.{programLimit, recordLimit, comma, refusedText, line, runLines, blockLine, blockLines, splitText, text};
+ghost use Rattle.report.specs.Records.{heldRows, printedOutcome, printedTable};
+use crate::PROGRAM_LIMIT;
+use answers::Counted;
+use answers::Refusal;
+use finder::RECORDS;
+use finder::Run;
+
+// The choices of best split.
+const FEWEST: u32 = 1;
+
+const MOST: u32 = 2;
+
+// A block has two symbols at least.
+const MOST_BLOCKS: usize = PROGRAM_LIMIT / 2;
+
+const COMMA: u8 = 44;
+
+const LINE_END: u8 = 10;
+
+// Stores a byte where there is a place for it.
+fn put_byte(out: &mut [u8], at: usize, b: u8) -> usize
+    requires { ⌜ at < 2 ^ 32 ⌝ }
+    ensures { λ r. ⌜ r ≡ at + 1 ⌝ }
+    ensures { λ _. ⌜ now (out .exit) ≡ set (now (out .entry)) at b ⌝ }
+{
+    if out.len() <= at {
+        return at + 1;
+    }
+    out[at] = b;
+    at + 1
+}
+
+// Stores bytes.
+fn put_text(out: &mut [u8], at: usize, s: &[u8]) -> usize
+    requires { ⌜ (at < 2 ^ 31) × (length (now s) < 2 ^ 31) ⌝ }
+    ensures { λ r. ⌜ r ≡ at + length (now (s .entry)) ⌝ }
+    ensures { λ _. ⌜ now (out .exit) ≡ sets (now (out .entry)) at (now (s .entry)) ⌝ }
+{
+    let mut i: usize = 0;
+    while i < s.len() {
+        put_byte(out, at + i, s[i]);
+        i += 1;
+    }
+    at + i
+}
+
+// Stores a comma and a number with no leading zeros.
+fn put_field(out: &mut [u8], at: usize, x: u32) -> usize
+    requires { ⌜ at < 2 ^ 30 ⌝ }
+    ensures { λ r. ⌜ r ≡ at + length (comma ∷ plain x) ⌝ }
+    ensures { λ _. ⌜ now (out .exit) ≡ sets (now (out .entry)) at (comma ∷ plain x) ⌝ }
+{
+    let mut digits = [0u8; 10];
+    let zero: usize = 0;
+    let k = decimals::inner::count(x);
+    decimals::inner::write(&mut digits, zero, k, x);
+    let next = put_byte(out, at, COMMA);
+    put_text(out, next, &digits[zero..k])
+}
+
+// Stores a line: a name, and numbers with a comma before each.
+fn put_line(out: &mut [u8], at: usize, name: &[u8], xs: &[u32]) -> usize
+    requires { ⌜ (at < 2 ^ 29) × (length (now name) ≤ 6) × (length (now xs) ≤ 7) ⌝ }
+    ensures { λ r. ⌜ r ≡ at + length (line (now (name .entry)) (now (xs .entry))) ⌝ }
+    ensures { λ _. ⌜ now (out .exit) ≡ sets (now (out .entry)) at (line (now (name .entry)) (now (xs .entry))) ⌝ }
+{
+    let mut next = put_text(out, at, name);
+    let mut i: usize = 0;
+    while i < xs.len() {
+        next = put_field(out, next, xs[i]);
+        i += 1;
+    }
+    put_byte(out, next, LINE_END)
+}
+
+// Stores the lines of the runs, from the table of their records.
+fn run_lines(table: &[u32], count: usize, out: &mut [u8], at: usize) -> usize
+    requires { ⌜ (at < 2 ^ 20) × (count ≤ recordLimit) × (stride * count ≤ length (now table)) ⌝ }
+    ensures { λ r. ⌜ r ≡ at + length (runLines 0 (records count (now (table .entry)))) ⌝ }
+    ensures { λ _. ⌜ now (out .exit) ≡ sets (now (out .entry)) at (runLines 0 (records count (now (table .entry)))) ⌝ }
+{
+    let mut next = at;
+    let mut i: usize = 0;
+    while i < count {
+        let place = finder::STRIDE * i;
+        let numbers = [
+            (i + 1) as u32,
+            table[place],
+            table[place + 1],
+            table[place + 2],
+        ];
+        next = put_line(out, next, b"run", &numbers);
+        i += 1;
+    }
+    next
+}
+
+// Stores the line of block number k + 1, between boundaries before and end. The first count of the
+// records are those of the runs.
+fn block_line(
+    w: &[u8],
+    k: usize,
+    before: usize,
+    end: usize,
+    runs: [Run; RECORDS],
+    count: usize,
+    out: &mut [u8],
+    at: usize,
+) -> usize
+    requires { ⌜ (at < 2 ^ 29) × (length (now w) ≤ programLimit) × (k ≤ before) × Block anyPeriod turns (now w) before end ⌝ }
+    requires { ⌜ (count ≤ recordLimit) × (take count runs ≡ heldRows (runsOf (now w))) ⌝ }
+    ensures { λ r. ⌜ r ≡ at + length (blockLine (now (w .entry)) (k + 1) before end) ⌝ }
+    ensures { λ _. ⌜ now (out .exit) ≡ sets (now (out .entry)) at (blockLine (now (w .entry)) (k + 1) before end) ⌝ }
+{
+    let unit = periods::smallest_period(&w[before..end]);
+    let run = finder::find_in(runs, count, (before + 1) as u32, end as u32, unit as u32) + 1;
+    let len = end - before;
+    let numbers = [
+        (k + 1) as u32,
+        (before + 1) as u32,
+        end as u32,
+        unit as u32,
+        (len / unit) as u32,
+        (len % unit) as u32,
+        run as u32,
+    ];
+    put_line(out, at, b"block", &numbers)
+}
+
+// Stores the lines of the blocks with these ends.
+fn block_lines(
+    w: &[u8],
+    ends: &[u32],
+    runs: [Run; RECORDS],
+    count: usize,
+    out: &mut [u8],
+    at: usize,
+) -> usize
+    requires { ⌜ (at < 2 ^ 20) × (length (now w) ≤ programLimit) × Factorization (Block anyPeriod turns (now w)) (length (now w)) (now ends) ⌝ }
+    requires { ⌜ (count ≤ recordLimit) × (take count runs ≡ heldRows (runsOf (now w))) ⌝ }
+    ensures { λ r. ⌜ r ≡ at + length (blockLines (now (w .entry)) 0 0 (now (ends .entry))) ⌝ }
+    ensures { λ _. ⌜ now (out .exit) ≡ sets (now (out .entry)) at (blockLines (now (w .entry)) 0 0 (now (ends .entry))) ⌝ }
+{
+    let mut next = at;
+    let mut before: usize = 0;
+    let mut k: usize = 0;
+    while k < ends.len() {
+        let end = ends[k] as usize;
+        next = block_line(w, k, before, end, runs, count, out, next);
+        before = end;
+        k += 1;
+    }
+    next
+}
+
+// Stores the lines of the best split of a choice: its name and size, and its blocks.
+fn split_lines(
+    w: &[u8],
+    choice: u32,
+    name: &[u8],
+    runs: [Run; RECORDS],
+    count: usize,
+    out: &mut [u8],
+    at: usize,
+) -> usize
+    requires { ⌜ (at < 2 ^ 19) × (length (now w) ≤ programLimit) × (1 ≤ choice) × (choice ≤ 2) × (length (now name) ≤ 6) ⌝ }
+    requires { ⌜ (count ≤ recordLimit) × (take count runs ≡ heldRows (runsOf (now w))) ⌝ }
+    ensures { λ r. ⌜ r ≡ at + length (splitText (now (w .entry)) choice (now (name .entry))) ⌝ }
+    ensures { λ _. ⌜ now (out .exit) ≡ sets (now (out .entry)) at (splitText (now (w .entry)) choice (now (name .entry))) ⌝ }
+{
+    let mut ends = [0u32; MOST_BLOCKS];
+    let mut work = [0u32; factors::ROWS * (PROGRAM_LIMIT + 1)];
+    let best = repetitions::best_split(w, choice, &mut ends, &mut work);
+    match best {
+        Counted::Refused(_) => {
+            let next = put_text(out, at, name);
+            put_text(out, next, b",none\n")
+        }
+        Counted::Count(size) => {
+            let sizes = [size];
+            let next = put_line(out, at, name, &sizes);
+            let zero: usize = 0;
+            let blocks = size as usize;
+            block_lines(w, &ends[zero..blocks], runs, count, out, next)
+        }
+    }
+}
+
+// Stores the whole text, from the runs in the table and in the records.
+fn write_text(w: &[u8], table: &[u32], runs: [Run; RECORDS], count: usize, out: &mut [u8]) -> usize
+    requires { ⌜ (length (now w) ≤ programLimit) × (count ≤ recordLimit) × (stride * count ≤ length (now table)) × (records count (now table) ≡ runsOf (now w)) × (take count runs ≡ heldRows (runsOf (now w))) ⌝ }
+    ensures { λ r. ⌜ r ≡ length (text (now (w .entry))) ⌝ }
+    ensures { λ _. ⌜ now (out .exit) ≡ sets (now (out .entry)) 0 (text (now (w .entry))) ⌝ }
+{
+    let zero: usize = 0;
+    let passes = [w.len() as u32];
+    let runs_from = put_line(out, zero, b"passes", &passes);
+    let fewest_from = run_lines(table, count, out, runs_from);
+    let most_from = split_lines(w, FEWEST, b"fewest", runs, count, out, fewest_from);
+    split_lines(w, MOST, b"most", runs, count, out, most_from)
+}
+
+// The report of a word that the program holds, from the table of its runs: counts the bytes, and
+// writes them where so many are lent.
+pub fn print(w: &[u8], table: &[u32], count: usize, out: &mut [u8]) -> Counted
+    requires { ⌜ (length (now w) ≤ programLimit) × (count ≤ recordLimit) × (stride * count ≤ length (now table)) × (records count (now table) ≡ runsOf (now w)) ⌝ }
+    ensures { λ r. ⌜ countedView r ≡ printedOutcome (text (now (w .entry))) (length (now (out .entry))) ⌝ }
+    ensures { λ _. ⌜ now (out .exit) ≡ printedTable (text (now (w .entry))) (now (out .entry)) ⌝ }
+{
+    let runs = finder::records(table, count);
+    let zero: usize = 0;
+    let size = write_text(w, table, runs, count, &mut out[zero..zero]);
+    if out.len() < size {
+        return Counted::Refused(Refusal::TooFewPlaces);
+    }
+    write_text(w, table, runs, count, out);
+    Counted::Count(size as u32)
+}
+
+// The report of a word that is too long.
+pub fn refuse(out: &mut [u8]) -> Counted
+    ensures { λ r. ⌜ countedView r ≡ printedOutcome refusedText (length (now (out .entry))) ⌝ }
+    ensures { λ _. ⌜ now (out .exit) ≡ printedTable refusedText (now (out .entry)) ⌝ }
+{
+    let zero: usize = 0;
+    let size = put_text(&mut out[zero..zero], zero, b"refused,1\n");
+    if out.len() < size {
+        return Counted::Refused(Refusal::TooFewPlaces);
+    }
+    put_text(out, zero, b"refused,1\n");
+    Counted::Count(size as u32)
+}
