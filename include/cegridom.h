@@ -1,0 +1,179 @@
+/*
+ * cegridom: repetition factorizations of words.
+ *
+ * A word is at most CEGRIDOM_LIMIT bytes, any byte value a symbol, with positions from 1. The unit
+ * of a part is its smallest period. A block (repetition) is a part at least twice as long as its
+ * unit; a run is a block that cannot be lengthened. A split (factorization) is a series of blocks
+ * that join up to the word, given by the positions of their ends.
+ *
+ * Every call returns 0 for accepted, else the number of the refusal: of those that the call's
+ * comment lists, the first that is met, in the order listed. *index is the number of the end from 1
+ * after refusals 3 and 4, else 0. The other values are set after an accepted answer, and are 0
+ * after a refusal.
+ *
+ * Tables. A slice is lent as a pointer and its count of elements; a slice of count 0 may be null.
+ * An accepted answer changes only the first places that it needs of an output table; a refusal
+ * changes none. The working table of cegridom_best_split is the exception, as its comment says.
+ * Every other pointer must be valid, and no two may overlap unless the call only reads both.
+ *
+ * Calls are reentrant: they keep no state, allocate nothing and call nothing back, so any number of
+ * threads may call at once, with tables of their own. What a call costs is said in each comment, n
+ * being the length of the word; where no stack is named, it is under 200 bytes.
+ *
+ * The functions are those of target/staticlib/libcegridom.a, for x86-64 Linux only, which
+ * `rt staticlib cegridom` proves and writes; it needs nothing but the C library's memset. Nothing
+ * checks these declarations against the source of the library: tests/c compares what every call
+ * gives.
+ */
+#ifndef CEGRIDOM_H
+#define CEGRIDOM_H
+
+#include <stddef.h>
+#include <stdint.h>
+
+#ifdef __cplusplus
+extern "C" {
+#endif
+
+#define CEGRIDOM_VERSION_MAJOR 0
+#define CEGRIDOM_VERSION_MINOR 1
+
+/* The longest word that is taken. */
+#define CEGRIDOM_LIMIT 4096
+/* What the working table holds for a prefix that has no split. */
+#define CEGRIDOM_NONE 4294967295u
+
+/* The places that a working table needs, for a word of n symbols. */
+#define CEGRIDOM_WORK_PLACES(n) (4 * ((n) + 1))
+/* The most ends that a split of a word of n symbols has. */
+#define CEGRIDOM_MOST_ENDS(n) ((n) / 2)
+/* The places that so many runs take: first, last, unit of each. */
+#define CEGRIDOM_RUN_PLACES(runs) (3 * (runs))
+/* The bytes of a plan line with k ends. */
+#define CEGRIDOM_PLAN_BYTES(k) (15 + 5 * (k))
+
+/* Choices of cegridom_best_split. */
+#define CEGRIDOM_FEWEST 1
+#define CEGRIDOM_MOST 2
+
+/* The results of a call. */
+enum cegridom_result {
+    CEGRIDOM_ACCEPTED = 0,
+    /* n above 4,096 */
+    CEGRIDOM_TOO_LONG = 1,
+    /* no split exists */
+    CEGRIDOM_NO_SPLIT = 2,
+    /* an end not above the one before it (0 before the first), or above n */
+    CEGRIDOM_BAD_END = 3,
+    /* the piece up to this end is not a block; for a path, no run has that number, or the run does
+       not enclose the piece, or the piece is shorter than 2 x the run's unit */
+    CEGRIDOM_NOT_BLOCK = 4,
+    /* the last end (0 if there are none) is not n */
+    CEGRIDOM_UNFINISHED = 5,
+    /* first below 1, last above n or first above last; for nodes, a position outside 1 to n */
+    CEGRIDOM_BAD_POSITION = 6,
+    /* fewer output places (for writing a plan, bytes) than the answer needs */
+    CEGRIDOM_TOO_FEW_PLACES = 7,
+    /* a choice other than 1 or 2 */
+    CEGRIDOM_BAD_CHOICE = 8,
+    /* a working table under 4 x (n+1) places */
+    CEGRIDOM_SHORT_TABLE = 9,
+    /* a path with an odd count of numbers */
+    CEGRIDOM_ODD_PATH = 10,
+    /* bytes that are not one plan line, or whose count of ends differs from the one stated */
+    CEGRIDOM_NOT_PLAN = 11
+};
+
+/*
+ * Part: of the symbols at the positions first to last, the unit, the turns (the length divided by
+ * the unit, rounded down), the rest (the remainder), and 1 for a block or 0.
+ * Reads word. Refusals: 1, 6.
+ * Time at most the product of the part's length and its unit.
+ */
+uint32_t cegridom_part(const uint8_t *word, size_t n, uint32_t first, uint32_t last, uint32_t *unit,
+                       uint32_t *turns, uint32_t *rest, uint32_t *block, uint32_t *index);
+
+/*
+ * Runs: writes first, last and unit of each run to table, by first and then by unit, which is the
+ * order of the run numbers from 1, and gives their count.
+ * Reads word; changes the first 3 x count places of table. Refusals: 1, 7.
+ * Time at most quadratic in n; 16 KiB of stack.
+ */
+uint32_t cegridom_runs(const uint8_t *word, size_t n, uint32_t *table, size_t places,
+                       uint32_t *count, uint32_t *index);
+
+/*
+ * Nodes: writes the numbers of the runs that have a white node at the position, rising, to table,
+ * and gives their count. A run has one at each position from first + 2 x unit - 1 to last.
+ * Reads word; changes the first count places of table. Refusals: 1, 6, 7.
+ * Time at most quadratic in n; 64 KiB of stack.
+ */
+uint32_t cegridom_nodes(const uint8_t *word, size_t n, uint32_t position, uint32_t *table,
+                        size_t places, uint32_t *count, uint32_t *index);
+
+/*
+ * Best split: writes the ends of the split with the fewest (choice 1) or the most (choice 2)
+ * blocks, and gives its size, the number of its blocks. Of the splits of that size it is the one
+ * whose last block is longest, then the one before it, and so on.
+ * Reads word; changes the first size places of ends. Refusals: 1, 8, 9, 2, 7.
+ * The working table afterwards holds in its first n + 1 places the best size of each prefix length
+ * 0 to n, CEGRIDOM_NONE where the prefix has no split, and 0 in the following 3 x (n+1); after an
+ * answer and after refusals 2 and 7 alike. After 1, 8 and 9 it keeps its contents. Places past
+ * 4 x (n+1) never change.
+ * Time at most quadratic in n; 48 bytes of stack a block of the split, 96 KiB at most.
+ */
+uint32_t cegridom_best_split(const uint8_t *word, size_t n, uint32_t choice, uint32_t *ends,
+                             size_t end_places, uint32_t *work, size_t work_places, uint32_t *size,
+                             uint32_t *index);
+
+/*
+ * Judge a split: accepted, with the number of blocks, exactly when the ends are those of a split.
+ * Reads word and ends. Refusals: 1; then for each end in turn 3, 4; then 5.
+ * Time at most quadratic in n.
+ */
+uint32_t cegridom_judge_split(const uint8_t *word, size_t n, const uint32_t *ends, size_t end_count,
+                              uint32_t *blocks, uint32_t *index);
+
+/*
+ * Path of a split: writes the run number of each block to table, and gives the number of blocks.
+ * It is that of the one run that encloses the block and has its unit.
+ * Reads word and ends; changes the first blocks places of table.
+ * Refusals: 1; then for each end in turn 3, 4; then 5; then 7.
+ * Time at most quadratic in n; 80 KiB of stack.
+ */
+uint32_t cegridom_path_of_split(const uint8_t *word, size_t n, const uint32_t *ends,
+                                size_t end_count, uint32_t *table, size_t places, uint32_t *blocks,
+                                uint32_t *index);
+
+/*
+ * Judge a path, given for each block as a run number and then an end: accepted, with the number of
+ * blocks, exactly when the numbers are those of a path of length n in the graph of the runs.
+ * Reads word and numbers. Refusals: 1; 10; then for each end in turn 3, 4; then 5.
+ * Time at most quadratic in n; 80 KiB of stack.
+ */
+uint32_t cegridom_judge_path(const uint8_t *word, size_t n, const uint32_t *numbers,
+                             size_t number_count, uint32_t *blocks, uint32_t *index);
+
+/*
+ * Write a plan: writes the plan line of n and the ends to out, and gives its count of bytes. The
+ * line is "plan", n, the number of ends and each end, in four digits each, parted by commas, then
+ * byte 10. A line carries no symbols, so it is not asked whether the pieces are blocks.
+ * Reads ends; changes the first bytes bytes of out. Refusals: 1; 3 for each end; 5; 7.
+ * Time linear in the line.
+ */
+uint32_t cegridom_write_plan(uint32_t n, const uint32_t *ends, size_t end_count, uint8_t *out,
+                             size_t room, uint32_t *bytes, uint32_t *index);
+
+/*
+ * Read a plan: writes the ends of a plan line to table, and gives its n and the count of ends.
+ * Reads line; changes the first count places of table. Refusals: 11; 1; 3 for each end; 5; 7.
+ * Time linear in the line.
+ */
+uint32_t cegridom_read_plan(const uint8_t *line, size_t length, uint32_t *table, size_t places,
+                            uint32_t *n, uint32_t *count, uint32_t *index);
+
+#ifdef __cplusplus
+}
+#endif
+
+#endif

@@ -1,0 +1,486 @@
+//! The library's algorithms again, in plain Rust, for the benchmark to compare with. The answer is
+//! `Ok` with its values, or `Err` with the refusal's number and index.
+
+pub type Answer<T> = Result<T, (u32, u32)>;
+
+const LIMIT: usize = 4096;
+const NONE: u32 = u32::MAX;
+const STRIDE: usize = 3;
+const TURNS: usize = 2;
+
+fn smallest_period(part: &[u8]) -> usize {
+    let n = part.len();
+    if n == 0 {
+        return 0;
+    }
+    let mut p = 0;
+    'outer: loop {
+        p += 1;
+        let mut i = 0;
+        while i < n - p {
+            if part[i] != part[i + p] {
+                continue 'outer;
+            }
+            i += 1;
+        }
+        break p;
+    }
+}
+
+pub fn part(w: &[u8], first: u32, last: u32) -> Answer<[u32; 4]> {
+    let n = w.len();
+    if LIMIT < n {
+        return Err((1, 0));
+    }
+    let end = last as usize;
+    if first < 1 || n < end || last < first {
+        return Err((6, 0));
+    }
+    let start = first as usize - 1;
+    let unit = smallest_period(&w[start..end]);
+    let len = end - start;
+    Ok([
+        unit as u32,
+        (len / unit) as u32,
+        (len % unit) as u32,
+        (TURNS * unit <= len) as u32,
+    ])
+}
+
+fn units(part: &[u8], table: &mut [u32]) {
+    let n = part.len();
+    if n == 0 {
+        return;
+    }
+    table[0] = 1;
+    let mut m = 1;
+    let mut d = 1;
+    while m < n {
+        if part[m] == part[m - d] {
+            table[m] = d as u32;
+            m += 1;
+            continue;
+        }
+        if d < m {
+            d += table[m - d - 1] as usize;
+            continue;
+        }
+        d = m + 1;
+        table[m] = d as u32;
+        m += 1;
+    }
+}
+
+fn store(table: &mut [u32], at: usize, value: u32) {
+    if let Some(place) = table.get_mut(at) {
+        *place = value;
+    }
+}
+
+fn is_run(w: &[u8], a: usize, b: usize, p: usize) -> bool {
+    if b - a < 2 * p {
+        return false;
+    }
+    if 0 < a && w[a - 1] == w[a - 1 + p] {
+        return false;
+    }
+    b == w.len() || w[b] != w[b - p]
+}
+
+fn rows_at(w: &[u8], a: usize, unit_table: &mut [u32], table: &mut [u32], at: usize) -> usize {
+    let n = w.len();
+    units(&w[a..n], unit_table);
+    let mut count = at;
+    for b in a + 1..=n {
+        let p = unit_table[b - a - 1] as usize;
+        if is_run(w, a, b, p) {
+            store(table, STRIDE * count, (a + 1) as u32);
+            store(table, STRIDE * count + 1, b as u32);
+            store(table, STRIDE * count + 2, p as u32);
+            count += 1;
+        }
+    }
+    count
+}
+
+fn enumerate(w: &[u8], unit_table: &mut [u32], table: &mut [u32]) -> usize {
+    let mut count = 0;
+    for a in 0..w.len() {
+        count = rows_at(w, a, unit_table, table, count);
+    }
+    count
+}
+
+pub fn runs(w: &[u8], table: &mut [u32]) -> Answer<u32> {
+    if LIMIT < w.len() {
+        return Err((1, 0));
+    }
+    let mut unit_table = [0; LIMIT];
+    let count = enumerate(w, &mut unit_table, &mut []);
+    if table.len() < STRIDE * count {
+        return Err((7, 0));
+    }
+    enumerate(w, &mut unit_table, table);
+    Ok(count as u32)
+}
+
+fn nodes_at(
+    w: &[u8],
+    x: usize,
+    unit_table: &mut [u32],
+    rows: &mut [u32],
+    out: &mut [u32],
+) -> usize {
+    let mut found = 0;
+    let mut number = 0;
+    for a in 0..x {
+        let count = rows_at(w, a, unit_table, rows, 0);
+        for i in 0..count {
+            let row = &rows[STRIDE * i..STRIDE * i + STRIDE];
+            let from = row[0] as usize + TURNS * row[2] as usize;
+            if from <= x + 1 && x <= row[1] as usize {
+                store(out, found, (number + i + 1) as u32);
+                found += 1;
+            }
+        }
+        number += count;
+    }
+    found
+}
+
+pub fn nodes(w: &[u8], position: u32, table: &mut [u32]) -> Answer<u32> {
+    if LIMIT < w.len() {
+        return Err((1, 0));
+    }
+    let x = position as usize;
+    if position < 1 || w.len() < x {
+        return Err((6, 0));
+    }
+    let mut unit_table = [0; LIMIT];
+    let mut rows = [0; STRIDE * LIMIT];
+    let count = nodes_at(w, x, &mut unit_table, &mut rows, &mut []);
+    if table.len() < count {
+        return Err((7, 0));
+    }
+    nodes_at(w, x, &mut unit_table, &mut rows, table);
+    Ok(count as u32)
+}
+
+fn offer(work: &mut [u32], choice: u32, at: usize, back: usize, size: u32, j: u32) {
+    let known = work[at];
+    let kept = known != NONE
+        && if choice == 1 {
+            known <= size
+        } else {
+            size <= known
+        };
+    if !kept {
+        work[at] = size;
+        work[back] = j;
+    }
+}
+
+fn spread(work: &mut [u32], n: usize, choice: u32, j: usize, size: u32) {
+    let row = n + 1;
+    let unit_row = row + row;
+    let len = n - j;
+    let mut d = 0;
+    while d < len {
+        let span = TURNS * work[unit_row + d] as usize;
+        if len < span {
+            return;
+        }
+        d += 1;
+        if d < span {
+            continue;
+        }
+        let m = j + d;
+        offer(work, choice, m, row + m, size, j as u32);
+    }
+}
+
+fn fill(w: &[u8], choice: u32, work: &mut [u32]) {
+    let n = w.len();
+    let row = n + 1;
+    let two = row + row;
+    let three = two + row;
+    work[0] = 0;
+    work[1..row].fill(NONE);
+    work[row..two].fill(0);
+    for j in 0..n {
+        let size = work[j];
+        if size == NONE {
+            continue;
+        }
+        units(&w[j..n], &mut work[two..three]);
+        spread(work, n, choice, j, size + 1);
+    }
+    work[two..two + two].fill(0);
+}
+
+fn write_ends(prev: &[u32], j: usize, count: usize, ends: &mut [u32]) {
+    if j == 0 {
+        return;
+    }
+    let at = count - 1;
+    ends[at] = j as u32;
+    write_ends(prev, prev[j] as usize, at, ends);
+}
+
+pub fn best_split(w: &[u8], choice: u32, ends: &mut [u32], work: &mut [u32]) -> Answer<u32> {
+    let n = w.len();
+    if LIMIT < n {
+        return Err((1, 0));
+    }
+    if choice != 1 && choice != 2 {
+        return Err((8, 0));
+    }
+    if work.len() < 4 * (n + 1) {
+        return Err((9, 0));
+    }
+    fill(w, choice, work);
+    let size = work[n];
+    let row = n + 1;
+    let answer = if size == NONE {
+        Err((2, 0))
+    } else if ends.len() < size as usize {
+        Err((7, 0))
+    } else {
+        write_ends(&work[row..row + row], n, size as usize, ends);
+        Ok(size)
+    };
+    work[row..row + row].fill(0);
+    answer
+}
+
+pub fn judge_split(w: &[u8], ends: &[u32]) -> Answer<u32> {
+    let n = w.len();
+    if LIMIT < n {
+        return Err((1, 0));
+    }
+    let mut before = 0;
+    for (k, &end) in ends.iter().enumerate() {
+        let end = end as usize;
+        let number = (k + 1) as u32;
+        if end <= before || n < end {
+            return Err((3, number));
+        }
+        if end - before < TURNS * smallest_period(&w[before..end]) {
+            return Err((4, number));
+        }
+        before = end;
+    }
+    if before != n {
+        return Err((5, 0));
+    }
+    Ok(ends.len() as u32)
+}
+
+fn count_runs(w: &[u8], unit_table: &mut [u32], table: &mut [u32]) {
+    let mut total = 0;
+    let mut a = 0;
+    while a < w.len() {
+        table[a] = total as u32;
+        total = rows_at(w, a, unit_table, &mut [], total);
+        a += 1;
+    }
+    table[a] = total as u32;
+}
+
+fn left_end(w: &[u8], i: usize, p: usize) -> usize {
+    let mut a = i;
+    while 0 < a && w[a - 1] == w[a - 1 + p] {
+        a -= 1;
+    }
+    a
+}
+
+fn number_of(
+    w: &[u8],
+    counts: &[u32],
+    a: usize,
+    period: u32,
+    unit_table: &mut [u32],
+    rows: &mut [u32],
+) -> u32 {
+    let count = rows_at(w, a, unit_table, rows, 0);
+    for i in 0..count {
+        if rows[STRIDE * i + 2] == period {
+            return counts[a] + i as u32 + 1;
+        }
+    }
+    0
+}
+
+pub fn path_of_split(w: &[u8], ends: &[u32], table: &mut [u32]) -> Answer<u32> {
+    let blocks = judge_split(w, ends)?;
+    if table.len() < ends.len() {
+        return Err((7, 0));
+    }
+    let mut counts = [0; LIMIT + 1];
+    let mut unit_table = [0; LIMIT];
+    let mut rows = [0; STRIDE * LIMIT];
+    count_runs(w, &mut unit_table, &mut counts);
+    let mut before = 0;
+    for (k, &end) in ends.iter().enumerate() {
+        let end = end as usize;
+        let p = smallest_period(&w[before..end]);
+        let a = left_end(w, before, p);
+        table[k] = number_of(w, &counts, a, p as u32, &mut unit_table, &mut rows);
+        before = end;
+    }
+    Ok(blocks)
+}
+
+fn run_with(
+    w: &[u8],
+    counts: &[u32],
+    number: u32,
+    unit_table: &mut [u32],
+    rows: &mut [u32],
+) -> Option<[usize; 3]> {
+    if number == 0 || counts[w.len()] < number {
+        return None;
+    }
+    let mut a = 0;
+    while counts[a + 1] < number {
+        a += 1;
+    }
+    rows_at(w, a, unit_table, rows, 0);
+    let base = STRIDE * ((number - counts[a]) as usize - 1);
+    Some([
+        rows[base] as usize,
+        rows[base + 1] as usize,
+        rows[base + 2] as usize,
+    ])
+}
+
+pub fn judge_path(w: &[u8], numbers: &[u32]) -> Answer<u32> {
+    let n = w.len();
+    if LIMIT < n {
+        return Err((1, 0));
+    }
+    if numbers.len() % 2 == 1 {
+        return Err((10, 0));
+    }
+    let mut counts = [0; LIMIT + 1];
+    let mut unit_table = [0; LIMIT];
+    let mut rows = [0; STRIDE * LIMIT];
+    count_runs(w, &mut unit_table, &mut counts);
+    let mut before = 0;
+    let mut blocks = 0;
+    for pair in numbers.chunks_exact(2) {
+        let end = pair[1] as usize;
+        blocks += 1;
+        if end <= before || n < end {
+            return Err((3, blocks));
+        }
+        let inside = match run_with(w, &counts, pair[0], &mut unit_table, &mut rows) {
+            None => false,
+            Some([first, last, p]) => {
+                first <= before + 1 && end <= last && before + TURNS * p <= end
+            }
+        };
+        if !inside {
+            return Err((4, blocks));
+        }
+        before = end;
+    }
+    if before != n {
+        return Err((5, 0));
+    }
+    Ok(blocks)
+}
+
+fn judge_ends(n: u32, ends: impl Iterator<Item = u32>) -> Answer<u32> {
+    if LIMIT < n as usize {
+        return Err((1, 0));
+    }
+    let mut before = 0;
+    let mut blocks = 0;
+    for end in ends {
+        blocks += 1;
+        if end <= before || n < end {
+            return Err((3, blocks));
+        }
+        before = end;
+    }
+    if before != n {
+        return Err((5, 0));
+    }
+    Ok(blocks)
+}
+
+fn put_number(out: &mut [u8], x: u32) {
+    let mut rest = x;
+    for place in out[..4].iter_mut().rev() {
+        *place = b'0' + (rest % 10) as u8;
+        rest /= 10;
+    }
+}
+
+pub fn write_plan(n: u32, ends: &[u32], out: &mut [u8]) -> Answer<u32> {
+    let blocks = judge_ends(n, ends.iter().copied())?;
+    let bytes = 15 + 5 * blocks as usize;
+    if out.len() < bytes {
+        return Err((7, 0));
+    }
+    out[..5].copy_from_slice(b"plan,");
+    put_number(&mut out[5..], n);
+    out[9] = b',';
+    put_number(&mut out[10..], blocks);
+    for (k, &end) in ends.iter().enumerate() {
+        let at = 15 + 5 * k;
+        out[at - 1] = b',';
+        put_number(&mut out[at..], end);
+    }
+    out[bytes - 1] = b'\n';
+    Ok(bytes as u32)
+}
+
+fn number(s: &[u8], at: usize) -> Option<u32> {
+    let mut x = 0;
+    for &b in &s[at..at + 4] {
+        if !b.is_ascii_digit() {
+            return None;
+        }
+        x = 10 * x + (b - b'0') as u32;
+    }
+    Some(x)
+}
+
+fn field(s: &[u8], at: usize) -> Option<u32> {
+    if s[at - 1] != b',' {
+        return None;
+    }
+    number(s, at)
+}
+
+// n and the count of ends, where the bytes are a line.
+fn header(s: &[u8]) -> Option<(u32, u32)> {
+    if s.len() < 15 || !s.starts_with(b"plan,") {
+        return None;
+    }
+    let n = field(s, 5)?;
+    let count = field(s, 10)?;
+    if s.len() != 15 + 5 * count as usize {
+        return None;
+    }
+    for k in 0..count as usize {
+        field(s, 15 + 5 * k)?;
+    }
+    (s[s.len() - 1] == b'\n').then_some((n, count))
+}
+
+pub fn read_plan(s: &[u8], table: &mut [u32]) -> Answer<(u32, u32)> {
+    let (n, count) = header(s).ok_or((11, 0))?;
+    let end = |k: usize| number(s, 15 + 5 * k).unwrap_or(0);
+    judge_ends(n, (0..count as usize).map(end))?;
+    if table.len() < count as usize {
+        return Err((7, 0));
+    }
+    for (k, place) in table[..count as usize].iter_mut().enumerate() {
+        *place = end(k);
+    }
+    Ok((n, count))
+}

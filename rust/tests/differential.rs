@@ -1,0 +1,960 @@
+//! Every call of the library against the independent implementation in `reference`: the result, the
+//! index, every value, and every place of every lent table and of what lies beside it.
+//!
+//! One comparison is one call with all of that. Each test prints how many it made.
+
+mod reference;
+
+use cegridom::raw;
+use reference::Outcome::{self, Accepted, Refused};
+use reference::{Run, LIMIT};
+
+/// What stands in a value before a call, and beside a table.
+const GUARD: u32 = 0xdead_beef;
+/// From this length on fewer comparisons are made of a word, since each takes its time.
+const LONG: usize = 1000;
+/// How many places beside a table are watched.
+const MARGIN: usize = 3;
+
+/// A table of some places, of known contents, between guards.
+struct Lent<T> {
+    places: Vec<T>,
+    before: Vec<T>,
+}
+
+impl<T: Copy + PartialEq + std::fmt::Debug + TryFrom<u64>> Lent<T> {
+    fn new(count: usize) -> Lent<T> {
+        let places: Vec<T> = (0..count + 2 * MARGIN)
+            .map(|i| T::try_from((7 * i as u64 + 3) % 251).ok().unwrap())
+            .collect();
+        Lent {
+            before: places.clone(),
+            places,
+        }
+    }
+
+    fn table(&mut self) -> &mut [T] {
+        let end = self.places.len() - MARGIN;
+        &mut self.places[MARGIN..end]
+    }
+
+    /// Only the front of the table changed, to these.
+    fn changed_to(&self, front: &[T], what: &str) {
+        let end = MARGIN + front.len();
+        assert_eq!(self.places[..MARGIN], self.before[..MARGIN], "{what}");
+        assert_eq!(&self.places[MARGIN..end], front, "{what}");
+        assert_eq!(self.places[end..], self.before[end..], "{what}");
+    }
+}
+
+/// Compares what a call handed over with an outcome of so many values.
+fn compare(result: u32, index: u32, values: &[u32], expected: &Outcome, what: &str) {
+    match expected {
+        Accepted(wanted) => {
+            assert_eq!((result, index), (0, 0), "{what}");
+            assert_eq!(values, wanted, "{what}");
+        }
+        Refused(number, at) => {
+            assert_eq!((result, index), (*number, *at), "{what}");
+            assert!(values.iter().all(|&v| v == 0), "{what}: {values:?}");
+        }
+    }
+}
+
+/// Makes the comparisons and counts them.
+#[derive(Default)]
+struct Checker {
+    made: u64,
+    /// How often each refusal was met; place 0 is for accepted.
+    met: [u64; 12],
+}
+
+/// A word and what is known of it.
+struct Known<'a> {
+    word: &'a [u8],
+    runs: Vec<Run>,
+    best: [(Vec<u32>, Option<Vec<u32>>); 2],
+}
+
+impl<'a> Known<'a> {
+    fn of(word: &'a [u8]) -> Known<'a> {
+        if word.len() > LIMIT {
+            return Known {
+                word,
+                runs: vec![],
+                best: Default::default(),
+            };
+        }
+        Known {
+            word,
+            runs: reference::runs(word),
+            best: [reference::best(word, 1), reference::best(word, 2)],
+        }
+    }
+}
+
+impl Checker {
+    fn count(&mut self, outcome: &Outcome) {
+        self.made += 1;
+        self.met[match outcome {
+            Accepted(_) => 0,
+            Refused(number, _) => *number as usize,
+        }] += 1;
+    }
+
+    fn part(&mut self, w: &[u8], first: u32, last: u32) {
+        let mut values = [GUARD; 4];
+        let mut index = GUARD;
+        let [unit, turns, rest, block] = &mut values;
+        let result = unsafe {
+            raw::cegridom_part(
+                w.as_ptr(),
+                w.len(),
+                first,
+                last,
+                unit,
+                turns,
+                rest,
+                block,
+                &mut index,
+            )
+        };
+        let expected = reference::part_call(w, first, last);
+        compare(result, index, &values, &expected, "part");
+        self.count(&expected);
+    }
+
+    fn runs(&mut self, known: &Known, places: usize) {
+        let w = known.word;
+        let mut lent = Lent::new(places);
+        let (mut count, mut index) = (GUARD, GUARD);
+        let table = lent.table();
+        let result = unsafe {
+            raw::cegridom_runs(
+                w.as_ptr(),
+                w.len(),
+                table.as_mut_ptr(),
+                table.len(),
+                &mut count,
+                &mut index,
+            )
+        };
+        let (expected, front) = reference::runs_call(w, &known.runs, places);
+        compare(result, index, &[count], &expected, "runs");
+        lent.changed_to(&front, "runs");
+        self.count(&expected);
+    }
+
+    fn nodes(&mut self, known: &Known, position: u32, places: usize) {
+        let w = known.word;
+        let mut lent = Lent::new(places);
+        let (mut count, mut index) = (GUARD, GUARD);
+        let table = lent.table();
+        let result = unsafe {
+            raw::cegridom_nodes(
+                w.as_ptr(),
+                w.len(),
+                position,
+                table.as_mut_ptr(),
+                table.len(),
+                &mut count,
+                &mut index,
+            )
+        };
+        let (expected, front) = reference::nodes_call(w, &known.runs, position, places);
+        compare(result, index, &[count], &expected, "nodes");
+        lent.changed_to(&front, "nodes");
+        self.count(&expected);
+    }
+
+    fn best_split(&mut self, known: &Known, choice: u32, places: usize, work_places: usize) {
+        let w = known.word;
+        let mut ends = Lent::new(places);
+        let mut work = Lent::new(work_places);
+        let (mut size, mut index) = (GUARD, GUARD);
+        let (e, t) = (ends.table(), work.table());
+        let result = unsafe {
+            raw::cegridom_best_split(
+                w.as_ptr(),
+                w.len(),
+                choice,
+                e.as_mut_ptr(),
+                e.len(),
+                t.as_mut_ptr(),
+                t.len(),
+                &mut size,
+                &mut index,
+            )
+        };
+        let best = &known.best[(choice == 2) as usize];
+        let (expected, front, work_front) =
+            reference::best_call(w, choice, best, places, work_places);
+        compare(result, index, &[size], &expected, "best split");
+        ends.changed_to(&front, "the ends of best split");
+        work.changed_to(&work_front, "the working table of best split");
+        self.count(&expected);
+    }
+
+    fn judge_split(&mut self, w: &[u8], ends: &[u32]) {
+        let (mut blocks, mut index) = (GUARD, GUARD);
+        let result = unsafe {
+            raw::cegridom_judge_split(
+                w.as_ptr(),
+                w.len(),
+                ends.as_ptr(),
+                ends.len(),
+                &mut blocks,
+                &mut index,
+            )
+        };
+        let expected = reference::judge_split_call(w, ends);
+        compare(result, index, &[blocks], &expected, "judge a split");
+        self.count(&expected);
+    }
+
+    fn path_of_split(&mut self, known: &Known, ends: &[u32], places: usize) {
+        let w = known.word;
+        let mut lent = Lent::new(places);
+        let (mut blocks, mut index) = (GUARD, GUARD);
+        let table = lent.table();
+        let result = unsafe {
+            raw::cegridom_path_of_split(
+                w.as_ptr(),
+                w.len(),
+                ends.as_ptr(),
+                ends.len(),
+                table.as_mut_ptr(),
+                table.len(),
+                &mut blocks,
+                &mut index,
+            )
+        };
+        let (expected, front) = reference::path_call(w, &known.runs, ends, places);
+        compare(result, index, &[blocks], &expected, "path of a split");
+        lent.changed_to(&front, "path of a split");
+        self.count(&expected);
+    }
+
+    fn judge_path(&mut self, known: &Known, numbers: &[u32]) {
+        let w = known.word;
+        let (mut blocks, mut index) = (GUARD, GUARD);
+        let result = unsafe {
+            raw::cegridom_judge_path(
+                w.as_ptr(),
+                w.len(),
+                numbers.as_ptr(),
+                numbers.len(),
+                &mut blocks,
+                &mut index,
+            )
+        };
+        let expected = reference::judge_path_call(w, &known.runs, numbers);
+        compare(result, index, &[blocks], &expected, "judge a path");
+        self.count(&expected);
+    }
+
+    fn write_plan(&mut self, n: u32, ends: &[u32], places: usize) {
+        let mut lent = Lent::new(places);
+        let (mut bytes, mut index) = (GUARD, GUARD);
+        let out = lent.table();
+        let result = unsafe {
+            raw::cegridom_write_plan(
+                n,
+                ends.as_ptr(),
+                ends.len(),
+                out.as_mut_ptr(),
+                out.len(),
+                &mut bytes,
+                &mut index,
+            )
+        };
+        let (expected, front) = reference::write_call(n, ends, places);
+        compare(result, index, &[bytes], &expected, "write a plan");
+        lent.changed_to(&front, "write a plan");
+        self.count(&expected);
+    }
+
+    fn read_plan(&mut self, line: &[u8], places: usize) {
+        let mut lent = Lent::new(places);
+        let (mut n, mut count, mut index) = (GUARD, GUARD, GUARD);
+        let table = lent.table();
+        let result = unsafe {
+            raw::cegridom_read_plan(
+                line.as_ptr(),
+                line.len(),
+                table.as_mut_ptr(),
+                table.len(),
+                &mut n,
+                &mut count,
+                &mut index,
+            )
+        };
+        let (expected, front) = reference::read_call(line, places);
+        let what = || format!("read a plan {:?}", String::from_utf8_lossy(line));
+        compare(result, index, &[n, count], &expected, &what());
+        lent.changed_to(&front, "read a plan");
+        self.count(&expected);
+    }
+
+    // ---- one call with every size of table
+
+    fn runs_sizes(&mut self, known: &Known) {
+        for places in around(3 * known.runs.len(), known.word.len()) {
+            self.runs(known, places);
+        }
+    }
+
+    fn nodes_sizes(&mut self, known: &Known, position: u32) {
+        for places in around(
+            reference::white(&known.runs, position as usize).len(),
+            known.word.len(),
+        ) {
+            self.nodes(known, position, places);
+        }
+    }
+
+    fn best_sizes(&mut self, known: &Known, choice: u32) {
+        let best = &known.best[(choice == 2) as usize];
+        let size = best.1.as_ref().map_or(0, Vec::len);
+        let work = 4 * (known.word.len() + 1);
+        for places in around(size, known.word.len()) {
+            self.best_split(known, choice, places, work);
+        }
+        for work_places in around(work, known.word.len()) {
+            self.best_split(known, choice, size, work_places);
+        }
+    }
+
+    fn path_sizes(&mut self, known: &Known, ends: &[u32]) {
+        for places in around(ends.len(), known.word.len()) {
+            self.path_of_split(known, ends, places);
+        }
+    }
+
+    fn plan_sizes(&mut self, n: u32, ends: &[u32]) {
+        let line = reference::line(n, ends);
+        for places in around(line.len(), 0) {
+            self.write_plan(n, ends, places);
+        }
+        for places in around(ends.len(), 0) {
+            self.read_plan(&line, places);
+        }
+    }
+
+    /// A path and its numbers changed one at a time.
+    fn path_and_near(&mut self, known: &Known, numbers: &[u32]) {
+        self.judge_path(known, numbers);
+        let mut near = numbers.to_vec();
+        for i in 0..numbers.len() {
+            for change in [near[i].wrapping_sub(1), near[i] + 1, 0, u32::MAX] {
+                near[i] = change;
+                self.judge_path(known, &near);
+                near[i] = numbers[i];
+            }
+            self.judge_path(known, &numbers[..i]);
+        }
+        near.push(1);
+        self.judge_path(known, &near);
+        near.push(1);
+        self.judge_path(known, &near);
+    }
+
+    fn report(self, name: &str) {
+        println!("{name}: {} comparisons", self.made);
+    }
+}
+
+/// One too few, exact and more; none at all too, where the word's length makes calls cheap.
+fn around(exact: usize, n: usize) -> Vec<usize> {
+    let mut sizes = vec![exact.saturating_sub(1), exact, exact + 9];
+    if n < LONG {
+        sizes.extend([0, exact + 1]);
+    }
+    sizes.sort();
+    sizes.dedup();
+    sizes
+}
+
+/// Run number and end of each block.
+fn encoded(numbers: &[u32], ends: &[u32]) -> Vec<u32> {
+    numbers
+        .iter()
+        .zip(ends)
+        .flat_map(|(&r, &e)| [r, e])
+        .collect()
+}
+
+// ---- words
+
+/// Calls with each word over so many symbols up to a length.
+fn every_word(symbols: u8, longest: usize, mut with: impl FnMut(&[u8])) {
+    for length in 0..=longest {
+        let mut word = vec![0; length];
+        loop {
+            with(&word);
+            let Some(i) = word.iter().position(|&s| s + 1 < symbols) else {
+                break;
+            };
+            word[i] += 1;
+            word[..i].fill(0);
+        }
+    }
+}
+
+fn every_short_word(mut with: impl FnMut(&[u8])) {
+    every_word(2, 10, &mut with);
+    every_word(3, 7, &mut with);
+}
+
+/// A small generator of numbers, so that every run makes the same comparisons.
+struct Numbers(u64);
+
+impl Numbers {
+    fn next(&mut self) -> u64 {
+        self.0 ^= self.0 << 13;
+        self.0 ^= self.0 >> 7;
+        self.0 ^= self.0 << 17;
+        self.0 >> 11
+    }
+
+    fn below(&mut self, n: usize) -> usize {
+        (self.next() % n as u64) as usize
+    }
+
+    fn word(&mut self, n: usize, symbols: usize) -> Vec<u8> {
+        (0..n).map(|_| self.below(symbols) as u8).collect()
+    }
+}
+
+fn fibonacci(n: usize) -> Vec<u8> {
+    let (mut shorter, mut longer) = (b"b".to_vec(), b"a".to_vec());
+    while longer.len() < n {
+        let next = [longer.clone(), shorter].concat();
+        shorter = std::mem::replace(&mut longer, next);
+    }
+    longer.truncate(n);
+    longer
+}
+
+fn thue_morse(n: usize) -> Vec<u8> {
+    (0..n as u32).map(|i| (i.count_ones() % 2) as u8).collect()
+}
+
+/// Words of a length that have structure: equal symbols, a last symbol that differs, Fibonacci,
+/// Thue-Morse, period 64, repetitions joined, and random ones.
+fn structured(n: usize) -> Vec<Vec<u8>> {
+    let mut numbers = Numbers(0x9e37_79b9_7f4a_7c15 ^ n as u64);
+    let mut last_differs = vec![b'a'; n];
+    if let Some(symbol) = last_differs.last_mut() {
+        *symbol = b'b';
+    }
+    let period = numbers.word(64, 4);
+    let mut joined = Vec::new();
+    while joined.len() < n {
+        let span = 1 + numbers.below(40);
+        let unit = numbers.word(span, 3);
+        let length = 2 * unit.len() + numbers.below(3 * unit.len());
+        joined.extend(unit.iter().cycle().take(length));
+    }
+    joined.truncate(n);
+    vec![
+        vec![b'a'; n],
+        last_differs,
+        fibonacci(n),
+        thue_morse(n),
+        (0..n).map(|i| period[i % 64]).collect(),
+        joined,
+        numbers.word(n, 2),
+        numbers.word(n, 4),
+        numbers.word(n, 256),
+    ]
+}
+
+// ---- the reference against the definitions
+
+#[test]
+fn reference_follows_the_definitions() {
+    let mut made = 0u64;
+    every_short_word(|w| {
+        let n = w.len();
+        for first in 0..n {
+            for end in first + 1..=n {
+                let part = &w[first..end];
+                assert_eq!(reference::unit(part), reference::plain_unit(part));
+                made += 1;
+            }
+        }
+        let runs = reference::runs(w);
+        assert_eq!(runs, reference::plain_runs(w));
+        assert!(n == 0 || runs.len() < n);
+        for choice in [1, 2] {
+            assert_eq!(reference::best(w, choice), reference::plain_best(w, choice));
+            made += 1;
+        }
+        // The splits and the paths of each leading length go together one to one.
+        for t in 0..=n {
+            let mut ends: Vec<Vec<u32>> = reference::plain_paths(&runs, n, t)
+                .iter()
+                .map(|path| path.iter().skip(1).step_by(2).copied().collect())
+                .collect();
+            ends.sort();
+            let mut splits = reference::plain_splits(&w[..t]);
+            splits.sort();
+            assert_eq!(ends, splits);
+            made += 1;
+        }
+    });
+    println!("the reference against the definitions: {made} comparisons");
+}
+
+// ---- the library against the reference
+
+#[test]
+fn short_words_part_runs_nodes() {
+    let mut checker = Checker::default();
+    every_short_word(|w| {
+        let known = Known::of(w);
+        let n = w.len() as u32;
+        for first in 0..=n + 1 {
+            for last in 0..=n + 1 {
+                checker.part(w, first, last);
+            }
+        }
+        checker.part(w, 1, u32::MAX);
+        checker.part(w, u32::MAX, 1);
+        checker.runs_sizes(&known);
+        for position in (0..=n + 1).chain([u32::MAX]) {
+            checker.nodes_sizes(&known, position);
+        }
+    });
+    checker.report("part, runs and nodes of short words");
+}
+
+#[test]
+fn short_words_best_split() {
+    let mut checker = Checker::default();
+    every_short_word(|w| {
+        let known = Known::of(w);
+        for choice in [1, 2] {
+            checker.best_sizes(&known, choice);
+        }
+        let work = 4 * (w.len() + 1);
+        for choice in [0, 3, u32::MAX] {
+            checker.best_split(&known, choice, w.len(), work);
+            checker.best_split(&known, choice, w.len(), work - 1);
+        }
+    });
+    checker.report("best split of short words");
+}
+
+#[test]
+fn short_words_judged_splits() {
+    let mut checker = Checker::default();
+    every_short_word(|w| {
+        let known = Known::of(w);
+        let n = w.len() as u32;
+        // Every rising series of ends up to n + 1, for the shorter words.
+        if n <= 8 {
+            for set in 0u32..1 << (n + 1) {
+                let ends: Vec<u32> = (1..=n + 1).filter(|e| set >> (e - 1) & 1 == 1).collect();
+                checker.judge_split(w, &ends);
+                checker.path_of_split(&known, &ends, ends.len());
+            }
+        }
+        for ends in reference::plain_splits(w) {
+            checker.judge_split(w, &ends);
+            checker.path_sizes(&known, &ends);
+            let mut near = ends.clone();
+            for i in 0..ends.len() {
+                for change in [0, near[i] - 1, near[i] + 1, u32::MAX] {
+                    near[i] = change;
+                    checker.judge_split(w, &near);
+                    checker.path_of_split(&known, &near, near.len());
+                    near[i] = ends[i];
+                }
+                checker.judge_split(w, &ends[..i]);
+            }
+        }
+    });
+    checker.report("judged splits and their paths of short words");
+}
+
+#[test]
+fn short_words_judged_paths() {
+    let mut checker = Checker::default();
+    every_short_word(|w| {
+        let known = Known::of(w);
+        for path in reference::plain_paths(&known.runs, w.len(), w.len()) {
+            assert!(matches!(
+                reference::judge_path_call(w, &known.runs, &path),
+                Accepted(_)
+            ));
+            checker.path_and_near(&known, &path);
+        }
+        // Every series of up to two blocks, for the shorter words.
+        if w.len() <= 5 {
+            let pairs: Vec<[u32; 2]> = (0..=known.runs.len() as u32 + 1)
+                .flat_map(|r| (0..=w.len() as u32 + 1).map(move |e| [r, e]))
+                .collect();
+            checker.judge_path(&known, &[]);
+            for a in &pairs {
+                checker.judge_path(&known, a);
+                for b in &pairs {
+                    checker.judge_path(&known, &[a[0], a[1], b[0], b[1]]);
+                }
+            }
+        }
+    });
+    checker.report("judged paths of short words");
+}
+
+#[test]
+fn long_words() {
+    let mut checker = Checker::default();
+    let mut numbers = Numbers(88_172_645_463_325_252);
+    let mut lengths: Vec<usize> = (11..140).step_by(7).collect();
+    lengths.extend([255, 256, 511, 1000, 2048, 4096]);
+    for n in lengths {
+        for w in structured(n) {
+            long_word(&mut checker, &mut numbers, &w);
+        }
+    }
+    // Random words of any length, and repetitions with one symbol changed.
+    for _ in 0..400 {
+        let n = 1 + numbers.below(90);
+        let symbols = [2, 3, 4, 256][numbers.below(4)];
+        let w = numbers.word(n, symbols);
+        long_word(&mut checker, &mut numbers, &w);
+        let period = 1 + numbers.below(n);
+        let mut w: Vec<u8> = w[..period].iter().cycle().take(n).copied().collect();
+        long_word(&mut checker, &mut numbers, &w);
+        w[numbers.below(n)] ^= 1;
+        long_word(&mut checker, &mut numbers, &w);
+    }
+    checker.report("long words");
+}
+
+fn long_word(checker: &mut Checker, numbers: &mut Numbers, w: &[u8]) {
+    let known = Known::of(w);
+    let n = w.len();
+    for _ in 0..20 {
+        let first = 1 + numbers.below(n);
+        let last = first + numbers.below(n + 1 - first);
+        checker.part(w, first as u32, last as u32);
+    }
+    checker.part(w, 1, n as u32);
+    checker.part(w, 2, n as u32 + 1);
+    checker.runs_sizes(&known);
+    let positions: &[usize] = if n < LONG {
+        &[0, 1, n / 3, n - 1, n, n + 1]
+    } else {
+        &[n / 3, n]
+    };
+    for &position in positions {
+        checker.nodes_sizes(&known, position as u32);
+    }
+    for choice in [1, 2] {
+        checker.best_sizes(&known, choice);
+        let Some(ends) = &known.best[choice as usize - 1].1 else {
+            continue;
+        };
+        checker.judge_split(w, ends);
+        checker.path_sizes(&known, ends);
+        checker.plan_sizes(n as u32, ends);
+        let (_, runs) = reference::path_call(w, &known.runs, ends, ends.len());
+        let path = encoded(&runs, ends);
+        checker.judge_path(&known, &path);
+        // A few changes, each in one place.
+        for _ in 0..if n < LONG { 8 } else { 2 } {
+            let mut near = ends.clone();
+            let i = numbers.below(ends.len());
+            near[i] = near[i] + numbers.below(5) as u32 - 2.min(near[i]);
+            checker.judge_split(w, &near);
+            checker.path_of_split(&known, &near, near.len());
+            let mut near = path.clone();
+            let i = numbers.below(path.len());
+            near[i] = near[i] + numbers.below(5) as u32 - 2.min(near[i]);
+            checker.judge_path(&known, &near);
+        }
+        checker.judge_path(&known, &path[1..]);
+        checker.judge_split(w, &ends[..ends.len() - 1]);
+    }
+    // Ends that rise, most of them ends of no block.
+    let ends: Vec<u32> = (1..=n as u32).filter(|_| numbers.below(3) == 0).collect();
+    checker.judge_split(w, &ends);
+}
+
+/// The same word one symbol too long for every call: 1 comes before anything else.
+#[test]
+fn words_over_the_limit() {
+    let mut checker = Checker::default();
+    for n in [4097, 5000, 70_000] {
+        for w in [vec![b'a'; n], fibonacci(n)] {
+            let known = Known::of(&w);
+            let all = n as u32;
+            for (first, last) in [(1, all), (0, all), (2, 1)] {
+                checker.part(&w, first, last);
+            }
+            for places in [0, 3, 3 * n] {
+                checker.runs(&known, places);
+                for position in [0, 1, all, all + 1] {
+                    checker.nodes(&known, position, places);
+                }
+            }
+            for choice in [0, 1, 2, 3] {
+                for work_places in [0, 4 * (n + 1)] {
+                    checker.best_split(&known, choice, n, work_places);
+                }
+            }
+            for ends in [&[][..], &[all], &[0], &[all + 1]] {
+                checker.judge_split(&w, ends);
+                checker.path_of_split(&known, ends, 0);
+                checker.path_of_split(&known, ends, 1);
+            }
+            for path in [&[][..], &[1], &[1, all], &[1, 0]] {
+                checker.judge_path(&known, path);
+            }
+        }
+    }
+    for n in [4097, 5000, 9999, 10_000, u32::MAX] {
+        for ends in [&[][..], &[n], &[0], &[n, n]] {
+            checker.write_plan(n, ends, 0);
+            checker.write_plan(n, ends, 100);
+            checker.read_plan(&reference::line(n, ends), 0);
+            checker.read_plan(&reference::line(n, ends), 4);
+        }
+    }
+    checker.report("words over the limit");
+}
+
+#[test]
+fn plan_lines() {
+    let mut checker = Checker::default();
+    let mut numbers = Numbers(2_463_534_242);
+    let mut plans: Vec<(u32, Vec<u32>)> = vec![
+        (0, vec![]),
+        (1, vec![1]),
+        (8, vec![2, 8]),
+        (9, vec![2, 8]),
+        (8, vec![2, 2, 8]),
+        (8, vec![8, 2]),
+        (8, vec![0, 8]),
+        (8, vec![2, 9]),
+        (8, vec![]),
+        (0, vec![0]),
+        (4096, vec![4096]),
+        (4096, (1..=4096).collect()),
+        (4096, (1..=2048).map(|k| 2 * k).collect()),
+        (5000, vec![5000]),
+        (9999, vec![9999]),
+    ];
+    for _ in 0..300 {
+        let n = numbers.below(LIMIT + 1) as u32;
+        let sparse = 1 + numbers.below(50);
+        let mut ends: Vec<u32> = (1..=n).filter(|_| numbers.below(sparse) == 0).collect();
+        if ends.last() != Some(&n) && n > 0 && numbers.below(10) > 0 {
+            ends.push(n);
+        }
+        plans.push((n, ends));
+    }
+    for (n, ends) in &plans {
+        checker.plan_sizes(*n, ends);
+    }
+    // Every byte of some lines changed, left out and doubled.
+    for (n, ends) in plans.iter().filter(|(_, ends)| ends.len() < 8).take(40) {
+        let line = reference::line(*n, ends);
+        let room = ends.len() + 3;
+        for i in 0..line.len() {
+            for byte in 0..=255 {
+                let mut damaged = line.clone();
+                damaged[i] = byte;
+                checker.read_plan(&damaged, room);
+            }
+            let mut damaged = line.clone();
+            damaged.remove(i);
+            checker.read_plan(&damaged, room);
+            let mut damaged = line.clone();
+            damaged.insert(i, line[i]);
+            checker.read_plan(&damaged, room);
+            checker.read_plan(&line[..i], room);
+            checker.read_plan(&line[i..], room);
+        }
+        for tail in [&b"\n"[..], b",0001\n", b" ", b"\0", b"\r\n"] {
+            checker.read_plan(&[&line[..], tail].concat(), room);
+            checker.read_plan(&[&line[..line.len() - 1], tail].concat(), room);
+        }
+    }
+    checker.report("plan lines");
+}
+
+/// Each refusal of each call is met, and where two are, the first in the call's order is given.
+#[test]
+fn every_refusal_in_its_order() {
+    let mut checker = Checker::default();
+    let word = b"aabaabaa";
+    let known = Known::of(word);
+    let baa = Known::of(b"baa");
+    let long = vec![b'a'; 4097];
+    let too_long = Known::of(&long);
+    let expect = |checker: &mut Checker, number: usize, make: &dyn Fn(&mut Checker)| {
+        let before = checker.met[number];
+        make(checker);
+        assert_eq!(checker.met[number], before + 1, "refusal {number}");
+    };
+    // part: 1, 6
+    expect(&mut checker, 1, &|c| c.part(&long, 0, 0));
+    for (first, last) in [(0, 8), (1, 9), (5, 4), (0, 0), (9, 9)] {
+        expect(&mut checker, 6, &|c| c.part(word, first, last));
+    }
+    // runs: 1, 7
+    expect(&mut checker, 1, &|c| c.runs(&too_long, 0));
+    expect(&mut checker, 7, &|c| c.runs(&known, 11));
+    expect(&mut checker, 0, &|c| c.runs(&known, 12));
+    // nodes: 1, 6, 7
+    expect(&mut checker, 1, &|c| c.nodes(&too_long, 0, 0));
+    expect(&mut checker, 6, &|c| c.nodes(&known, 0, 0));
+    expect(&mut checker, 6, &|c| c.nodes(&known, 9, 0));
+    expect(&mut checker, 7, &|c| c.nodes(&known, 8, 1));
+    expect(&mut checker, 0, &|c| c.nodes(&known, 8, 2));
+    // best split: 1, 8, 9, 2, 7
+    expect(&mut checker, 1, &|c| c.best_split(&too_long, 3, 0, 0));
+    expect(&mut checker, 8, &|c| c.best_split(&baa, 3, 0, 0));
+    expect(&mut checker, 8, &|c| c.best_split(&baa, 0, 0, 16));
+    expect(&mut checker, 9, &|c| c.best_split(&baa, 1, 0, 15));
+    expect(&mut checker, 2, &|c| c.best_split(&baa, 1, 0, 16));
+    expect(&mut checker, 7, &|c| c.best_split(&known, 2, 1, 36));
+    expect(&mut checker, 0, &|c| c.best_split(&known, 2, 2, 36));
+    // judge a split: 1; 3, 4 for each end; 5
+    expect(&mut checker, 1, &|c| c.judge_split(&long, &[0]));
+    expect(&mut checker, 3, &|c| c.judge_split(word, &[0]));
+    expect(&mut checker, 3, &|c| c.judge_split(word, &[2, 2, 8]));
+    expect(&mut checker, 3, &|c| c.judge_split(word, &[2, 9]));
+    expect(&mut checker, 4, &|c| c.judge_split(word, &[3, 3]));
+    expect(&mut checker, 4, &|c| c.judge_split(word, &[2, 4]));
+    expect(&mut checker, 5, &|c| c.judge_split(word, &[2]));
+    expect(&mut checker, 5, &|c| c.judge_split(word, &[]));
+    // path of a split: the same, then 7
+    expect(&mut checker, 1, &|c| c.path_of_split(&too_long, &[0], 0));
+    expect(&mut checker, 3, &|c| c.path_of_split(&known, &[9], 0));
+    expect(&mut checker, 4, &|c| c.path_of_split(&known, &[3, 8], 0));
+    expect(&mut checker, 5, &|c| c.path_of_split(&known, &[2], 0));
+    expect(&mut checker, 7, &|c| c.path_of_split(&known, &[2, 8], 1));
+    expect(&mut checker, 0, &|c| c.path_of_split(&known, &[2, 8], 2));
+    // judge a path: 1, 10, then as for a split
+    expect(&mut checker, 1, &|c| c.judge_path(&too_long, &[1]));
+    expect(&mut checker, 10, &|c| c.judge_path(&known, &[0]));
+    expect(&mut checker, 10, &|c| c.judge_path(&known, &[1, 0, 1]));
+    expect(&mut checker, 3, &|c| c.judge_path(&known, &[0, 0]));
+    expect(&mut checker, 3, &|c| c.judge_path(&known, &[1, 2, 9, 2]));
+    for path in [[0, 8], [5, 8], [1, 8], [2, 5], [4, 8]] {
+        expect(&mut checker, 4, &|c| c.judge_path(&known, &path));
+    }
+    expect(&mut checker, 5, &|c| c.judge_path(&known, &[1, 2]));
+    expect(&mut checker, 5, &|c| c.judge_path(&known, &[]));
+    expect(&mut checker, 0, &|c| c.judge_path(&known, &[1, 2, 2, 8]));
+    // write a plan: 1; 3 for each end; 5; 7
+    expect(&mut checker, 1, &|c| c.write_plan(4097, &[0], 0));
+    expect(&mut checker, 3, &|c| c.write_plan(8, &[9], 0));
+    expect(&mut checker, 3, &|c| c.write_plan(8, &[8, 8], 0));
+    expect(&mut checker, 5, &|c| c.write_plan(8, &[2], 0));
+    expect(&mut checker, 7, &|c| c.write_plan(8, &[2, 8], 24));
+    expect(&mut checker, 0, &|c| c.write_plan(8, &[2, 8], 25));
+    // read a plan: 11; then as for writing
+    expect(&mut checker, 11, &|c| {
+        c.read_plan(b"plan,9999,0002,9999\n", 0)
+    });
+    expect(&mut checker, 1, &|c| {
+        c.read_plan(b"plan,9999,0001,0000\n", 0)
+    });
+    expect(&mut checker, 3, &|c| {
+        c.read_plan(b"plan,0008,0001,0009\n", 0)
+    });
+    expect(&mut checker, 5, &|c| {
+        c.read_plan(b"plan,0008,0001,0007\n", 0)
+    });
+    expect(&mut checker, 7, &|c| {
+        c.read_plan(b"plan,0008,0001,0008\n", 0)
+    });
+    expect(&mut checker, 0, &|c| {
+        c.read_plan(b"plan,0008,0001,0008\n", 1)
+    });
+    checker.report("every refusal in its order");
+}
+
+/// The functions of the crate against the same answers.
+#[test]
+fn wrappers() {
+    use cegridom::Choice::{Largest, Smallest};
+    let mut made = 0u64;
+    let code = |r: cegridom::Refusal| (r.number(), r.index().unwrap_or(0));
+    let expected = |o: &Outcome| match o {
+        Accepted(values) => Ok(values.clone()),
+        Refused(number, index) => Err((*number, *index)),
+    };
+    let mut words: Vec<Vec<u8>> = structured(200);
+    words.push(vec![b'a'; 4096]);
+    words.push(vec![b'a'; 4097]);
+    every_word(2, 7, |w| words.push(w.to_vec()));
+    for w in &words {
+        let known = Known::of(w);
+        let many = 5 * w.len() + 20;
+        let n = w.len() as u32;
+        for (first, last) in [(1, n), (2, n), (0, n), (n, n), (1, n / 2)] {
+            let got = cegridom::part(w, first, last)
+                .map(|p| vec![p.period, p.exponent, p.remainder, p.repetition as u32])
+                .map_err(code);
+            assert_eq!(got, expected(&reference::part_call(w, first, last)));
+        }
+        let (outcome, table) = reference::runs_call(w, &known.runs, many);
+        let got = cegridom::runs(w).map_err(code).map(|runs| {
+            runs.iter()
+                .flat_map(|r| [r.first, r.last, r.period])
+                .collect::<Vec<_>>()
+        });
+        assert_eq!(got, expected(&outcome).map(|_| table));
+        for position in [0, 1, n / 2, n, n + 1] {
+            let (outcome, table) = reference::nodes_call(w, &known.runs, position, many);
+            let got = cegridom::nodes(w, position).map_err(code);
+            assert_eq!(got, expected(&outcome).map(|_| table));
+        }
+        for choice in [Smallest, Largest] {
+            let best = &known.best[choice as usize - 1];
+            let (outcome, ends, _) = reference::best_call(w, choice as u32, best, many, many);
+            let got = cegridom::best_split(w, choice).map_err(code);
+            assert_eq!(got, expected(&outcome).map(|_| ends.clone()));
+            let sizes = cegridom::best_sizes(w, choice);
+            if w.len() > LIMIT {
+                assert_eq!(sizes, Err(cegridom::Refusal::TooLong));
+            } else {
+                let flat: Vec<u32> = sizes
+                    .unwrap()
+                    .iter()
+                    .map(|s| s.unwrap_or(cegridom::NONE))
+                    .collect();
+                assert_eq!(flat, best.0);
+            }
+            let outcome = reference::judge_split_call(w, &ends);
+            let got = cegridom::judge_split(w, &ends).map(|b| vec![b]);
+            assert_eq!(got.map_err(code), expected(&outcome));
+            let (outcome, numbers) = reference::path_call(w, &known.runs, &ends, many);
+            let got = cegridom::path_of_split(w, &ends).map_err(code);
+            assert_eq!(got, expected(&outcome).map(|_| numbers.clone()));
+            let path = encoded(&numbers, &ends);
+            let outcome = reference::judge_path_call(w, &known.runs, &path);
+            let got = cegridom::judge_path(w, &path).map(|b| vec![b]);
+            assert_eq!(got.map_err(code), expected(&outcome));
+            let (outcome, line) = reference::write_call(n, &ends, many);
+            let got = cegridom::write_plan(n, &ends).map_err(code);
+            assert_eq!(got, expected(&outcome).map(|_| line.clone()));
+            let (outcome, back) = reference::read_call(&line, many);
+            let got = cegridom::read_plan(&line).map_err(code);
+            assert_eq!(
+                got.map(|plan| (plan.n, plan.ends)),
+                expected(&outcome).map(|values| (values[0], back))
+            );
+            made += 7;
+        }
+        made += 11;
+    }
+    println!("the wrappers: {made} comparisons");
+}

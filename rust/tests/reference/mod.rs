@@ -1,0 +1,454 @@
+//! What every call answers, written from the definitions alone and apart from the library.
+//!
+//! The functions named `plain_..` are the definitions themselves, by trying everything; they serve
+//! short words. The others are faster and of another kind than the library's own (borders instead of
+//! the recurrence of periods, runs by period instead of by first position, each boundary looking
+//! back instead of offering forward); the test holds them to the plain ones on every short word.
+
+pub const LIMIT: usize = 4096;
+pub const NONE: u32 = u32::MAX;
+
+/// An answer with its values, or a refusal with its number and index.
+#[derive(Clone, Debug, PartialEq, Eq)]
+pub enum Outcome {
+    Accepted(Vec<u32>),
+    Refused(u32, u32),
+}
+
+use Outcome::{Accepted, Refused};
+
+fn refused(number: u32) -> Outcome {
+    Refused(number, 0)
+}
+
+// ---- periods
+
+fn is_period(part: &[u8], p: usize) -> bool {
+    1 <= p && p <= part.len() && (0..part.len() - p).all(|i| part[i] == part[i + p])
+}
+
+pub fn plain_unit(part: &[u8]) -> usize {
+    (1..=part.len())
+        .find(|&p| is_period(part, p))
+        .expect("the length is a period")
+}
+
+/// The longest proper border of each prefix of a part.
+fn borders(part: &[u8]) -> Vec<usize> {
+    let mut border = vec![0; part.len()];
+    for i in 1..part.len() {
+        let mut b = border[i - 1];
+        while b > 0 && part[i] != part[b] {
+            b = border[b - 1];
+        }
+        border[i] = if part[i] == part[b] { b + 1 } else { 0 };
+    }
+    border
+}
+
+/// The length without the longest border is the smallest period.
+pub fn unit(part: &[u8]) -> usize {
+    part.len() - borders(part)[part.len() - 1]
+}
+
+fn is_block(part: &[u8]) -> bool {
+    !part.is_empty() && part.len() >= 2 * unit(part)
+}
+
+// ---- runs
+
+/// First, last, unit.
+pub type Run = (usize, usize, usize);
+
+pub fn plain_runs(w: &[u8]) -> Vec<Run> {
+    let n = w.len();
+    let at = |position: usize| w[position - 1];
+    let mut runs = Vec::new();
+    for first in 1..=n {
+        for last in first..=n {
+            let p = plain_unit(&w[first - 1..last]);
+            let block = last + 1 - first >= 2 * p;
+            if block
+                && (first == 1 || at(first - 1) != at(first + p - 1))
+                && (last == n || at(last + 1) != at(last + 1 - p))
+            {
+                runs.push((first, last, p));
+            }
+        }
+    }
+    runs.sort_by_key(|&(first, _, p)| (first, p));
+    runs
+}
+
+/// For each period, the stretches of symbols equal to the one a period on; those of at least one
+/// period are maximal with it, and are runs if it is their unit.
+pub fn runs(w: &[u8]) -> Vec<Run> {
+    let n = w.len();
+    let mut runs = Vec::new();
+    for p in 1..=n / 2 {
+        let mut from = 0;
+        while from + p < n {
+            let mut to = from;
+            while to + p < n && w[to] == w[to + p] {
+                to += 1;
+            }
+            if to - from >= p && unit(&w[from..to + p]) == p {
+                runs.push((from + 1, to + p, p));
+            }
+            from = to + 1;
+        }
+    }
+    runs.sort_by_key(|&(first, _, p)| (first, p));
+    runs
+}
+
+/// The numbers of the runs with a white node at a position.
+pub fn white(runs: &[Run], position: usize) -> Vec<u32> {
+    let mut numbers = Vec::new();
+    for (i, &(first, last, p)) in runs.iter().enumerate() {
+        if (first + 2 * p - 1..=last).contains(&position) {
+            numbers.push(i as u32 + 1);
+        }
+    }
+    numbers
+}
+
+// ---- splits
+
+/// Every split of a word, by its ends.
+pub fn plain_splits(w: &[u8]) -> Vec<Vec<u32>> {
+    fn go(w: &[u8], from: usize, ends: &mut Vec<u32>, all: &mut Vec<Vec<u32>>) {
+        if from == w.len() {
+            all.push(ends.clone());
+        }
+        for end in from + 1..=w.len() {
+            let part = &w[from..end];
+            if part.len() >= 2 * plain_unit(part) {
+                ends.push(end as u32);
+                go(w, end, ends, all);
+                ends.pop();
+            }
+        }
+    }
+    let mut all = Vec::new();
+    go(w, 0, &mut Vec::new(), &mut all);
+    all
+}
+
+/// The lengths of the blocks, the last one first.
+fn lengths_from_end(ends: &[u32]) -> Vec<u32> {
+    let mut before = 0;
+    let mut lengths: Vec<u32> = ends
+        .iter()
+        .map(|&e| {
+            let length = e - before;
+            before = e;
+            length
+        })
+        .collect();
+    lengths.reverse();
+    lengths
+}
+
+/// The best size of each prefix and the best split of the whole, by looking at every split.
+pub fn plain_best(w: &[u8], choice: u32) -> (Vec<u32>, Option<Vec<u32>>) {
+    let best_of = |splits: &[Vec<u32>]| {
+        let sizes = splits.iter().map(|s| s.len() as u32);
+        if choice == 1 {
+            sizes.min()
+        } else {
+            sizes.max()
+        }
+        .unwrap_or(NONE)
+    };
+    let sizes: Vec<u32> = (0..=w.len())
+        .map(|m| best_of(&plain_splits(&w[..m])))
+        .collect();
+    let ends = plain_splits(w)
+        .into_iter()
+        .filter(|s| s.len() as u32 == sizes[w.len()])
+        .max_by_key(|s| lengths_from_end(s));
+    (sizes, ends)
+}
+
+/// The same: each boundary looks back at the blocks that end there, the longest first.
+pub fn best(w: &[u8], choice: u32) -> (Vec<u32>, Option<Vec<u32>>) {
+    let n = w.len();
+    let mut sizes = vec![NONE; n + 1];
+    let mut back = vec![0; n + 1];
+    sizes[0] = 0;
+    for m in 1..=n {
+        let reversed: Vec<u8> = w[..m].iter().rev().copied().collect();
+        let border = borders(&reversed);
+        for j in 0..m {
+            let length = m - j;
+            if sizes[j] == NONE || length < 2 * (length - border[length - 1]) {
+                continue;
+            }
+            let size = sizes[j] + 1;
+            let better = if choice == 1 {
+                size < sizes[m]
+            } else {
+                size > sizes[m]
+            };
+            if sizes[m] == NONE || better {
+                sizes[m] = size;
+                back[m] = j;
+            }
+        }
+    }
+    if sizes[n] == NONE {
+        return (sizes, None);
+    }
+    let mut ends = Vec::new();
+    let mut m = n;
+    while m > 0 {
+        ends.push(m as u32);
+        m = back[m];
+    }
+    ends.reverse();
+    (sizes, Some(ends))
+}
+
+// ---- the graph
+
+/// The encodings of all paths from joint 0 to a joint, by walking the graph's edges.
+pub fn plain_paths(runs: &[Run], n: usize, target: usize) -> Vec<Vec<u32>> {
+    #[derive(Clone, Copy)]
+    enum Node {
+        Black(usize),
+        White(usize, usize),
+    }
+    fn is_white(run: Run, position: usize) -> bool {
+        (run.0 + 2 * run.2 - 1..=run.1).contains(&position)
+    }
+    fn go(runs: &[Run], n: usize, at: Node, target: usize, code: &[u32], all: &mut Vec<Vec<u32>>) {
+        match at {
+            Node::Black(j) => {
+                if j == target {
+                    all.push(code.to_vec());
+                }
+                for (i, &run) in runs.iter().enumerate() {
+                    let x = j + 2 * run.2;
+                    if x <= n && is_white(run, x) {
+                        go(runs, n, Node::White(i, x), target, code, all);
+                    }
+                }
+            }
+            Node::White(i, x) => {
+                if is_white(runs[i], x + 1) {
+                    go(runs, n, Node::White(i, x + 1), target, code, all);
+                }
+                let mut longer = code.to_vec();
+                longer.extend([i as u32 + 1, x as u32]);
+                go(runs, n, Node::Black(x), target, &longer, all);
+            }
+        }
+    }
+    let mut all = Vec::new();
+    go(runs, n, Node::Black(0), target, &[], &mut all);
+    all
+}
+
+// ---- the calls: the outcome, and what an accepted answer writes at the front of its table
+
+pub fn part_call(w: &[u8], first: u32, last: u32) -> Outcome {
+    if w.len() > LIMIT {
+        return refused(1);
+    }
+    if first < 1 || last as usize > w.len() || first > last {
+        return refused(6);
+    }
+    let part = &w[first as usize - 1..last as usize];
+    let p = unit(part);
+    let block = part.len() >= 2 * p;
+    Accepted(vec![
+        p as u32,
+        (part.len() / p) as u32,
+        (part.len() % p) as u32,
+        block as u32,
+    ])
+}
+
+pub fn runs_call(w: &[u8], runs: &[Run], places: usize) -> (Outcome, Vec<u32>) {
+    if w.len() > LIMIT {
+        return (refused(1), vec![]);
+    }
+    if places < 3 * runs.len() {
+        return (refused(7), vec![]);
+    }
+    let flat = runs
+        .iter()
+        .flat_map(|&(a, b, p)| [a as u32, b as u32, p as u32])
+        .collect();
+    (Accepted(vec![runs.len() as u32]), flat)
+}
+
+pub fn nodes_call(w: &[u8], runs: &[Run], position: u32, places: usize) -> (Outcome, Vec<u32>) {
+    if w.len() > LIMIT {
+        return (refused(1), vec![]);
+    }
+    if position < 1 || position as usize > w.len() {
+        return (refused(6), vec![]);
+    }
+    let numbers = white(runs, position as usize);
+    if places < numbers.len() {
+        return (refused(7), vec![]);
+    }
+    (Accepted(vec![numbers.len() as u32]), numbers)
+}
+
+/// The outcome, the ends, and the front of the working table where the call changes it.
+pub fn best_call(
+    w: &[u8],
+    choice: u32,
+    best: &(Vec<u32>, Option<Vec<u32>>),
+    places: usize,
+    work_places: usize,
+) -> (Outcome, Vec<u32>, Vec<u32>) {
+    let n = w.len();
+    if n > LIMIT {
+        return (refused(1), vec![], vec![]);
+    }
+    if choice != 1 && choice != 2 {
+        return (refused(8), vec![], vec![]);
+    }
+    if work_places < 4 * (n + 1) {
+        return (refused(9), vec![], vec![]);
+    }
+    let mut work = best.0.clone();
+    work.resize(4 * (n + 1), 0);
+    match &best.1 {
+        None => (refused(2), vec![], work),
+        Some(ends) if places < ends.len() => (refused(7), vec![], work),
+        Some(ends) => (Accepted(vec![ends.len() as u32]), ends.clone(), work),
+    }
+}
+
+/// The refusals 3, 4 and 5 of ends, with a test of the piece between two boundaries.
+fn verdict(n: usize, ends: &[u32], fits: impl Fn(usize, usize, usize) -> bool) -> Option<Outcome> {
+    let mut before = 0;
+    for (k, &end) in ends.iter().enumerate() {
+        let end = end as usize;
+        let index = k as u32 + 1;
+        if end <= before || end > n {
+            return Some(Refused(3, index));
+        }
+        if !fits(k, before, end) {
+            return Some(Refused(4, index));
+        }
+        before = end;
+    }
+    (before != n).then(|| refused(5))
+}
+
+pub fn judge_split_call(w: &[u8], ends: &[u32]) -> Outcome {
+    if w.len() > LIMIT {
+        return refused(1);
+    }
+    verdict(w.len(), ends, |_, i, j| is_block(&w[i..j]))
+        .unwrap_or_else(|| Accepted(vec![ends.len() as u32]))
+}
+
+pub fn path_call(w: &[u8], runs: &[Run], ends: &[u32], places: usize) -> (Outcome, Vec<u32>) {
+    let judged = judge_split_call(w, ends);
+    if let Refused(..) = judged {
+        return (judged, vec![]);
+    }
+    if places < ends.len() {
+        return (refused(7), vec![]);
+    }
+    let mut before = 0;
+    let mut numbers = Vec::new();
+    for &end in ends {
+        let end = end as usize;
+        let p = unit(&w[before..end]);
+        let mut enclosing = runs
+            .iter()
+            .enumerate()
+            .filter(|(_, &(a, b, q))| a <= before + 1 && end <= b && q == p);
+        let (i, _) = enclosing.next().expect("a block lies in a run");
+        assert!(enclosing.next().is_none(), "only one run encloses a block");
+        numbers.push(i as u32 + 1);
+        before = end;
+    }
+    (judged, numbers)
+}
+
+pub fn judge_path_call(w: &[u8], runs: &[Run], numbers: &[u32]) -> Outcome {
+    if w.len() > LIMIT {
+        return refused(1);
+    }
+    if numbers.len() % 2 == 1 {
+        return refused(10);
+    }
+    let ends: Vec<u32> = numbers.iter().skip(1).step_by(2).copied().collect();
+    verdict(w.len(), &ends, |k, i, j| {
+        let number = numbers[2 * k] as usize;
+        if number == 0 || number > runs.len() {
+            return false;
+        }
+        let (first, last, p) = runs[number - 1];
+        first <= i + 1 && j <= last && j - i >= 2 * p
+    })
+    .unwrap_or_else(|| Accepted(vec![ends.len() as u32]))
+}
+
+/// The refusals that writing and reading a plan share.
+fn implausible(n: u32, ends: &[u32]) -> Option<Outcome> {
+    if n as usize > LIMIT {
+        return Some(refused(1));
+    }
+    verdict(n as usize, ends, |_, _, _| true)
+}
+
+pub fn line(n: u32, ends: &[u32]) -> Vec<u8> {
+    let mut text = format!("plan,{:04},{:04}", n, ends.len());
+    for end in ends {
+        text += &format!(",{end:04}");
+    }
+    text.push('\n');
+    text.into_bytes()
+}
+
+pub fn write_call(n: u32, ends: &[u32], places: usize) -> (Outcome, Vec<u8>) {
+    if let Some(outcome) = implausible(n, ends) {
+        return (outcome, vec![]);
+    }
+    let bytes = line(n, ends);
+    if places < bytes.len() {
+        return (refused(7), vec![]);
+    }
+    (Accepted(vec![bytes.len() as u32]), bytes)
+}
+
+/// n and the ends, if the bytes are a plan line.
+pub fn parse(s: &[u8]) -> Option<(u32, Vec<u32>)> {
+    let text = s.strip_suffix(b"\n")?;
+    let mut fields = text.split(|&b| b == b',');
+    if fields.next()? != b"plan" {
+        return None;
+    }
+    let numbers = fields
+        .map(|f| {
+            (f.len() == 4 && f.iter().all(u8::is_ascii_digit))
+                .then(|| std::str::from_utf8(f).unwrap().parse().unwrap())
+        })
+        .collect::<Option<Vec<u32>>>()?;
+    let (&n, rest) = numbers.split_first()?;
+    let (&count, ends) = rest.split_first()?;
+    (ends.len() == count as usize).then(|| (n, ends.to_vec()))
+}
+
+pub fn read_call(s: &[u8], places: usize) -> (Outcome, Vec<u32>) {
+    let Some((n, ends)) = parse(s) else {
+        return (refused(11), vec![]);
+    };
+    if let Some(outcome) = implausible(n, &ends) {
+        return (outcome, vec![]);
+    }
+    if places < ends.len() {
+        return (refused(7), vec![]);
+    }
+    (Accepted(vec![n, ends.len() as u32]), ends)
+}
