@@ -97,7 +97,7 @@ uint32_t cegridom_part(const uint8_t *word, size_t n, uint32_t first, uint32_t l
  * Runs: writes first, last and unit of each run to table, by first and then by unit, which is the
  * order of the run numbers from 1, and gives their count.
  * Reads word; changes the first 3 x count places of table. Refusals: 1, 7.
- * Time at most quadratic in n; 16 KiB of stack.
+ * Time at most quadratic in n; 17 KiB of stack.
  */
 uint32_t cegridom_runs(const uint8_t *word, size_t n, uint32_t *table, size_t places,
                        uint32_t *count, uint32_t *index);
@@ -106,7 +106,7 @@ uint32_t cegridom_runs(const uint8_t *word, size_t n, uint32_t *table, size_t pl
  * Nodes: writes the numbers of the runs that have a white node at the position, rising, to table,
  * and gives their count. A run has one at each position from first + 2 x unit - 1 to last.
  * Reads word; changes the first count places of table. Refusals: 1, 6, 7.
- * Time at most quadratic in n; 64 KiB of stack.
+ * Time at most quadratic in n; 65 KiB of stack.
  */
 uint32_t cegridom_nodes(const uint8_t *word, size_t n, uint32_t position, uint32_t *table,
                         size_t places, uint32_t *count, uint32_t *index);
@@ -120,7 +120,7 @@ uint32_t cegridom_nodes(const uint8_t *word, size_t n, uint32_t position, uint32
  * 0 to n, CEGRIDOM_NONE where the prefix has no split, and 0 in the following 3 x (n+1); after an
  * answer and after refusals 2 and 7 alike. After 1, 8 and 9 it keeps its contents. Places past
  * 4 x (n+1) never change.
- * Time at most quadratic in n; 48 bytes of stack a block of the split, 96 KiB at most.
+ * Time at most quadratic in n; 48 bytes of stack a block of the split, 97 KiB at most.
  */
 uint32_t cegridom_best_split(const uint8_t *word, size_t n, uint32_t choice, uint32_t *ends,
                              size_t end_places, uint32_t *work, size_t work_places, uint32_t *size,
@@ -139,7 +139,7 @@ uint32_t cegridom_judge_split(const uint8_t *word, size_t n, const uint32_t *end
  * It is that of the one run that encloses the block and has its unit.
  * Reads word and ends; changes the first blocks places of table.
  * Refusals: 1; then for each end in turn 3, 4; then 5; then 7.
- * Time at most quadratic in n; 80 KiB of stack.
+ * Time at most quadratic in n; 81 KiB of stack.
  */
 uint32_t cegridom_path_of_split(const uint8_t *word, size_t n, const uint32_t *ends,
                                 size_t end_count, uint32_t *table, size_t places, uint32_t *blocks,
@@ -149,7 +149,7 @@ uint32_t cegridom_path_of_split(const uint8_t *word, size_t n, const uint32_t *e
  * Judge a path, given for each block as a run number and then an end: accepted, with the number of
  * blocks, exactly when the numbers are those of a path of length n in the graph of the runs.
  * Reads word and numbers. Refusals: 1; 10; then for each end in turn 3, 4; then 5.
- * Time at most quadratic in n; 80 KiB of stack.
+ * Time at most quadratic in n; 81 KiB of stack.
  */
 uint32_t cegridom_judge_path(const uint8_t *word, size_t n, const uint32_t *numbers,
                              size_t number_count, uint32_t *blocks, uint32_t *index);
