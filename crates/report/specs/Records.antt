@@ -1,4 +1,4 @@
--- What the inner functions go by: the records of the runs as the finder holds them, and the text of a word that is too long.
+-- What the inner functions go by: the records of the runs as the finder holds them, and a text where so many bytes are lent.
 use mathlib.Core.Bool.{cond}
 use mathlib.Core.List.{List, [], _∷_, _++_, map}
 use Prim.Native.Nat.{ℕ}
