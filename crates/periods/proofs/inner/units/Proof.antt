@@ -8,8 +8,6 @@ use Rattle.periods.specs.Period.{prefixPeriods}
 use Rattle.periods.proofs.Units.{Upto, units-start, units-agree, units-next, units-next-low, units-next-high, units-whole, units-done}
 use Rattle.periods.proofs.inner.units.Statement.{statement}
 use Rattle.periods.proofs.inner.units.Tie as tie
-use Rattle.periods.proofs.inner.units.Reads as reads
-use Rattle.periods.proofs.inner.units.Lts as lts
 
 empty : (s t : List ℕ) → length s ≡ 0 → t ≡ prefixPeriods s (length s) ++ drop (length s) t
 unfolding prefixPeriods
