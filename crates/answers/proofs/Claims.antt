@@ -5,8 +5,8 @@ use mathlib.Core.Bool.{Bool, true, cond, _&&_}
 use Prim.Native.Nat.{ℕ, zero, suc, _≤_, _<_}
 use native.Mathlib.Omega.{arith}
 use native.Mathlib.Decide.{decLt}
+use Rattle.answers.proofs.Tests.{and-left, and-right}
 use lib.Dec.{T, eqb, eqb→eq, lit≤}
-use Rattle.answers.specs.declared.Code.{Code}
 use Rattle.answers.specs.declared.Counted.{Counted}
 use Rattle.answers.specs.declared.Counted.the-variants.{Count, Refused}
 use Rattle.answers.specs.declared.Refusal.{Refusal}
@@ -66,14 +66,6 @@ number-range NotPlan = (lit≤ tt, lit≤ tt)
 abbrev upTo : (ℕ → Bool) → ℕ → Bool
 upTo t zero = true
 upTo t (suc n) = upTo t n && t (suc n)
-
-and-left : (x y : Bool) → T (x && y) → T x
-and-left true y h = tt
-and-left Bool.false y h = h
-
-and-right : (x y : Bool) → T (x && y) → T y
-and-right true y h = h
-and-right Bool.false y h = absurd h
 
 up-to : (t : ℕ → Bool) (n : ℕ) → T (upTo t n) → (i : ℕ) → 1 ≤ i → i ≤ n → T (t i)
 up-to t zero h i a b = absurd (omega arith)

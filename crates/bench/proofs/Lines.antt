@@ -8,7 +8,8 @@ use native.Mathlib.Numerals.{add-one}
 use borrow.Author.Tests.{eq-eqb, ne-eqb}
 use lib.ListN.{length, getD, take, drop, length-append, length-take, length-drop, drop-of-length-le}
 use lib.Seq.{drop-cons}
-use Rattle.bench.specs.Line.{lineEnd, lineLength}
+use Rattle.decimals.specs.Decimal.{lineEnd}
+use Rattle.bench.specs.Line.{lineLength}
 
 module _ (s : List ℕ) (i : ℕ) where
   -- byte 10 stands here

@@ -4,10 +4,9 @@ ghost use Prim.Native.Nat.{_≤_};
 ghost use lib.ListN.{length};
 ghost use Rattle.bench.specs.Line.{lineLength};
 use answers::Counted;
+use decimals::LINE_END;
 use libc::STDIN_FILENO;
 use libc::STDOUT_FILENO;
-
-const LINE_END: u8 = 10;
 
 // One byte more than the program takes tells a line that is too long.
 const ENOUGH: usize = report::PROGRAM_LIMIT + 1;

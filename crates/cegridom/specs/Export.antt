@@ -1,5 +1,4 @@
 -- What the exported functions give for an outcome: the result, the index and the values.
-use mathlib.Core.List.{List}
 use Prim.Native.Nat.{ℕ}
 use lib.ListN.{getD}
 use Rattle.answers.specs.Outcome.{Outcome, accepted, refused}

@@ -1,7 +1,7 @@
 -- Writing a number in decimal and reading it are inverse to each other, for every width and number; and a plain number has as many digits as it needs and no leading zeros. By induction on the width,
 -- on the bytes, and on how many digits there may be. Assumes nothing.
 use mathlib.Core.Path.{_≡_, refl, sym, ap, ap₂, _∙_, subst}
-use mathlib.Core.Bool.{Bool, true, false, cond, _&&_}
+use mathlib.Core.Bool.{Bool, true, false, cond}
 use mathlib.Core.List.{List, [], _∷_, _++_, append-nil}
 use Prim.Native.Nat.{ℕ, zero, suc, _+_, _-_, _*_, _/_, _%_, _^_, _≤_, _<_}
 use native.Mathlib.Omega.{arith}
@@ -11,26 +11,11 @@ use borrow.Author.Tests.{lt-ltb, le-ltb, le-leb}
 use lib.Dec.{T, leb, ltb, leb→le}
 use lib.ListN.{length, length-append}
 use lib.Seq.{append-snoc}
+use Rattle.answers.proofs.Tests.{and-intro, and-left, and-right}
 use Rattle.decimals.specs.Decimal.{zeroByte, digits, digitCount, plain, digit?, digits?, spelled, value}
 use Rattle.decimals.specs.Read.{numberIn}
 
 -- ---- tests
-
-pub and-both : (x y : Bool) → T x → T y → T (x && y)
-and-both true y a b = b
-and-both false y a b = a
-
-pub and-left : (x y : Bool) → T (x && y) → T x
-and-left true y h = tt
-and-left false y h = h
-
-pub and-right : (x y : Bool) → T (x && y) → T y
-and-right true y h = h
-and-right false y h = absurd h
-
-pub T-true : (t : Bool) → T t → t ≡ true
-T-true true h = refl
-T-true false h = absurd h
 
 pub digit-low : (b : ℕ) → T (digit? b) → zeroByte ≤ b
 digit-low b h = leb→le zeroByte b (and-left (leb zeroByte b) (leb b (zeroByte + 9)) h)
@@ -50,7 +35,7 @@ digits-length (suc k) x = omega (arith, length-append (digits k (x / 10)) ((zero
 
 digits-append : (xs ys : List ℕ) → T (digits? xs) → T (digits? ys) → T (digits? (xs ++ ys))
 digits-append [] ys a b = b
-digits-append (x ∷ xs) ys a b = and-both (digit? x) (digits? (xs ++ ys)) (and-left (digit? x) (digits? xs) a) (digits-append xs ys (and-right (digit? x) (digits? xs) a) b)
+digits-append (x ∷ xs) ys a b = and-intro (digit? x) (digits? (xs ++ ys)) (and-left (digit? x) (digits? xs) a) (digits-append xs ys (and-right (digit? x) (digits? xs) a) b)
 
 -- CLAIM: what is written is digits
 pub digits-are-digits : (k x : ℕ) → T (digits? (digits k x))
@@ -58,7 +43,7 @@ unfolding digits
 digits-are-digits zero x = tt
 digits-are-digits (suc k) x =
     digits-append (digits k (x / 10)) ((zeroByte + x % 10) ∷ []) (digits-are-digits k (x / 10))
-    (and-both (digit? (zeroByte + x % 10)) true (subst T (sym (is-digit (zeroByte + x % 10) (omega arith) (omega arith))) tt) tt)
+    (and-intro (digit? (zeroByte + x % 10)) true (subst T (sym (is-digit (zeroByte + x % 10) (omega arith) (omega arith))) tt) tt)
 
 spelled-snoc : (a : ℕ) (xs : List ℕ) (b : ℕ) → spelled a (xs ++ b ∷ []) ≡ spelled a xs * 10 + (b - zeroByte)
 spelled-snoc a [] b = refl

@@ -9,6 +9,13 @@ use lib.ListN.{take, drop}
 abbrev pub zeroByte : ℕ
 zeroByte = 48
 
+-- the byte between numbers, and the byte at the end of a line
+abbrev pub comma : ℕ
+comma = 44
+
+abbrev pub lineEnd : ℕ
+lineEnd = 10
+
 -- the last `width` digits of a number
 unfoldable pub digits : ℕ → ℕ → List ℕ
 digits zero x = []

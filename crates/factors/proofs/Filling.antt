@@ -4,15 +4,14 @@
 use mathlib.Core.Path.{_≡_, refl, sym, ap, _∙_, subst}
 use mathlib.Core.Logic.{_≢_}
 use mathlib.Core.Bool.{Bool, true, false, cond}
-use mathlib.Core.List.{List, [], _∷_, _++_}
-use Prim.Native.Nat.{ℕ, zero, suc, _+_, _-_, _*_, _≤_, _<_}
+use mathlib.Core.List.{List, _++_}
+use Prim.Native.Nat.{ℕ, zero, suc, _+_, _-_, _≤_, _<_}
 use native.Mathlib.Omega.{arith}
 use native.Mathlib.Numerals.{add-one}
-use native.Mathlib.Decide.{decLt, decLe, ℕ-discrete}
-use lib.Dec.{T}
-use lib.ListN.{length, getD, set, take, drop, length-take, length-drop, take-append-drop}
+use native.Mathlib.Decide.{decLe}
+use lib.ListN.{length, getD, set, take, drop, length-take, length-drop}
 use lib.Seq.{getD-take, getD-drop, drop-set-lt, take-add}
-use Rattle.factors.specs.Factorization.{Choice, Cell, unreachable, reached, offer, scan, cell}
+use Rattle.factors.specs.Factorization.{Choice, Cell, unreachable, reached, scan, cell}
 use Rattle.factors.specs.Table.{none, sizeIn, previousIn, sizes, previous, started, offered, taken, spread}
 use Rattle.factors.proofs.Optimal.{unreachable-reached, cell-zero, cell-suc, size-bound, scan-no-block, scan-unreachable, scan-block}
 use Rattle.factors.proofs.TableLaws.{Holds, holds-none, holds-reached, holds-same, started-zero, started-within, offered-cell, offered-others, offered-other, length-offered, sizes-are, previous-are}

@@ -1,11 +1,11 @@
 -- A part of a table that was lent and came back with other contents: what stands at each place. The form `take a t ++ (new ++ drop (b - a) (drop a t))` is the
 -- one that a lent `&mut t[a..b]` leaves. Assumes nothing.
-use mathlib.Core.Path.{_≡_, refl, sym, ap, _∙_}
-use mathlib.Core.List.{List, [], _∷_, _++_}
-use Prim.Native.Nat.{ℕ, zero, suc, _+_, _-_, _≤_, _<_}
+use mathlib.Core.Path.{_≡_, ap, _∙_}
+use mathlib.Core.List.{List, _++_}
+use Prim.Native.Nat.{ℕ, _+_, _-_, _≤_, _<_}
 use native.Mathlib.Omega.{arith}
 use lib.ListN.{length, getD, take, drop, length-append, length-take, length-drop, List·getD-append}
-use lib.Seq.{getD-append-add, getD-take, getD-drop, drop-drop, drop-append-add, take-at, drop-at}
+use lib.Seq.{getD-append-add, getD-take, getD-drop, drop-drop, drop-append-add, take-at}
 
 -- t, with the part between a and b replaced
 abbrev pub lent : List ℕ → ℕ → ℕ → List ℕ → List ℕ

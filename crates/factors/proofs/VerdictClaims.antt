@@ -11,6 +11,7 @@ use lib.Dec.{T, leb, ltb}
 use lib.ListN.{length, getD, length-append}
 use lib.Seq.{getD-at, append-snoc}
 use borrow.Author.Tests.{le-leb, lt-leb, lt-ltb, le-ltb, eq-eqb, ne-eqb}
+use Rattle.answers.proofs.Tests.{T-true}
 use Rattle.answers.specs.Outcome.{Outcome, accepted, refused}
 use Rattle.factors.specs.Factorization.{Chain, Factorization}
 use Rattle.factors.specs.Verdict.{verdictFrom, verdict, endOf, Rises, IsBlock, FineBefore, VerdictMeaning, bad-end, no-block, unfinished, fine}
@@ -158,10 +159,6 @@ module _ (B : ℕ → ℕ → ℕ → Type 0) (n : ℕ) (ends : List ℕ) where
 
 refused-accepted : (o : Outcome) (r x : ℕ) (v : List ℕ) → o ≡ refused r x → o ≡ accepted v → ⊥
 refused-accepted o r x v e d = let z : _≡_ {A = ℕ} 0 1 = cc in omega arith
-
-T-true : (t : Bool) → T t → t ≡ true
-T-true true h = refl
-T-true false h = absurd h
 
 -- for a test that does not look at the block's number
 module _ (c : ℕ → ℕ → Bool) (C : ℕ → ℕ → Type 0) (to : (i j : ℕ) → T (c i j) → C i j) (of : (i j : ℕ) → C i j → T (c i j)) (n : ℕ) where

@@ -1,8 +1,7 @@
 -- The computed smallest period is a period, and no smaller number is one; the test for a repetition decides it; the smallest periods of prefixes never fall.
 -- By what the search says of the number that it finds. Assumes nothing.
-use mathlib.Core.Path.{_≡_, refl, sym, ap, _∙_, subst}
-use mathlib.Core.Logic.{_↔_}
-use mathlib.Core.Bool.{Bool, true, false, _&&_}
+use mathlib.Core.Path.{_≡_, refl, sym, _∙_, subst}
+use mathlib.Core.Bool.{Bool, _&&_}
 use mathlib.Core.List.{List, [], _∷_, _++_}
 use Prim.Native.Nat.{ℕ, zero, suc, _+_, _-_, _*_, _≤_, _<_}
 use native.Mathlib.Omega.{arith}
@@ -10,9 +9,10 @@ use native.Mathlib.Decide.{decLt, decLe}
 use lib.Dec.{T, eqb, leb, ltb, eqb→eq, eqb-refl, leb→le, le→leb, ltb→lt, lt→ltb}
 use lib.ListN.{length, getD, take, length-take, length-append, List·getD-append}
 use lib.Seq.{getD-at}
-use Rattle.periods.specs.Period.{Period, SmallestPeriod, Repetition, all, seek, agrees, smallestPeriod, repetition?, prefixPeriods}
-use Rattle.periods.proofs.Search.{Sought, seek-sought, all-sound, all-complete, and-intro, and-left, and-right}
-use Rattle.periods.proofs.InPlace.{PeriodIn, SmallestIn, symbol, placed-prefix, period-in, period-out, smallest-in, smallest-out, period-piece}
+use Rattle.answers.proofs.Tests.{and-intro, and-left, and-right}
+use Rattle.periods.specs.Period.{Period, SmallestPeriod, Repetition, seek, agrees, smallestPeriod, repetition?, prefixPeriods}
+use Rattle.periods.proofs.Search.{Sought, seek-sought, all-sound, all-complete}
+use Rattle.periods.proofs.InPlace.{SmallestIn, symbol, placed-prefix, smallest-in, smallest-out, period-piece}
 
 -- no pair of symbols p apart differs, exactly where p is a period or too long for a pair
 pub agrees-sound : (s : List ℕ) (p : ℕ) → T (agrees s p) → (i : ℕ) → i + p < length s → getD s i 0 ≡ getD s (i + p) 0

@@ -4,7 +4,7 @@ use mathlib.Core.Bool.{true, false}
 use mathlib.Core.List.{List, [], _∷_}
 use Prim.Native.Nat.{ℕ}
 use lib.ListN.{replicate}
-use Rattle.answers.specs.Outcome.{Outcome, accepted, refused}
+use Rattle.answers.specs.Outcome.{accepted, refused}
 use Rattle.periods.specs.Period.{smallestPeriod, repetition?, prefixPeriods, anyPeriod}
 use Rattle.periods.specs.Part.{partOutcome, description}
 

@@ -1,11 +1,11 @@
 -- Periods of a part in its place: between the boundaries a and b of a sequence of symbols `f : ℕ → ℕ`, counted from 0. A word handed on by itself has
 -- the periods that it has in its place (`period-in`, `period-out`), so that laws about slices and prefixes are laws about places. Assumes nothing.
-use mathlib.Core.Path.{_≡_, refl, sym, ap, _∙_, subst}
+use mathlib.Core.Path.{_≡_, refl, sym, ap, _∙_}
 use mathlib.Core.List.{List}
-use Prim.Native.Nat.{ℕ, zero, suc, _+_, _-_, _≤_, _<_}
+use Prim.Native.Nat.{ℕ, suc, _+_, _-_, _≤_, _<_}
 use native.Mathlib.Omega.{arith}
 use native.Mathlib.Decide.{decLt}
-use native.Mathlib.Nat.{zero-add, sub-zero}
+use native.Mathlib.Nat.{zero-add}
 use lib.ListN.{length, getD, take, drop, length-take, length-drop}
 use lib.Seq.{getD-take, getD-drop}
 use Rattle.periods.specs.Period.{part, Period, SmallestPeriod}

@@ -1,32 +1,26 @@
 -- What the part call answers means what document 01 says, for every word, first and last; and its answers are told apart by their numbers. By the order of
 -- the tests in the definition. Assumes nothing.
-use mathlib.Core.Path.{_≡_, refl, sym, ap, ap₂, _∙_, subst}
-use mathlib.Core.Logic.{_⊎_, inl, inr, _↔_}
-use mathlib.Core.Bool.{Bool, true, false, cond, _&&_, _||_}
+use mathlib.Core.Path.{_≡_, refl, sym, ap, subst}
+use mathlib.Core.Bool.{Bool, true, false, _||_}
 use mathlib.Core.List.{List, [], _∷_}
-use Prim.Native.Nat.{ℕ, zero, suc, _+_, _-_, _*_, _/_, _%_, _≤_, _<_}
+use Prim.Native.Nat.{ℕ, _-_, _*_, _/_, _%_, _≤_, _<_}
 use native.Mathlib.Omega.{arith}
 use native.Mathlib.Decide.{decLt, decLe}
 use native.Mathlib.Nat.{div-add-mod', mod-lt}
 use borrow.Author.Tests.{lt-ltb, le-ltb}
 use lib.Dec.{T, leb, ltb}
 use lib.ListN.{length}
-use Rattle.answers.specs.declared.Refusal.{Refusal}
-use Rattle.answers.specs.Outcome.{Outcome, accepted, refused, refusal, limit}
+use Rattle.answers.proofs.Tests.{and-true}
+use Rattle.answers.specs.Outcome.{Outcome, accepted, refused, limit}
 use Rattle.answers.proofs.Claims.{refusal-injective}
-use Rattle.periods.specs.declared.Description.{Description}
 use Rattle.periods.specs.declared.PartAnswer.{PartAnswer}
 use Rattle.periods.specs.declared.PartAnswer.the-variants.{Described, Refused}
-use Rattle.periods.specs.Period.{part, SmallestPeriod, Repetition, smallestPeriod, repetition?, turns, anyPeriod}
+use Rattle.periods.specs.Period.{part, smallestPeriod, repetition?, turns, anyPeriod}
 use Rattle.periods.specs.Part.{flag, partView, description, partOutcome, Within, Describes, PartMeaning, too-long, outside, described}
 use Rattle.periods.proofs.InPlace.{placed-part}
 use Rattle.periods.proofs.Claims.{smallest-period-is, repetition-sound, repetition-complete}
 
 -- ---- the description
-
-and-true : (b : Bool) → (b && true) ≡ b
-and-true true = refl
-and-true false = refl
 
 -- where every period is allowed, a word is a repetition if it is long enough
 pub repetition-any : (k : ℕ) (s : List ℕ) → 0 < length s → repetition? anyPeriod k s ≡ leb (k * smallestPeriod s) (length s)

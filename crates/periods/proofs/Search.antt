@@ -1,23 +1,12 @@
 -- The bounded search `seek` and the bounded test `all` do what their names say. By induction on the number of tries. Assumes nothing.
-use mathlib.Core.Path.{_≡_, refl, sym, ap, _∙_, subst}
-use mathlib.Core.Bool.{Bool, true, false, _&&_}
+use mathlib.Core.Path.{_≡_, refl, sym, subst}
+use mathlib.Core.Bool.{Bool, true, false}
 use Prim.Native.Nat.{ℕ, zero, suc, _+_, _≤_, _<_}
 use native.Mathlib.Omega.{arith}
 use native.Mathlib.Decide.{ℕ-discrete}
 use lib.Dec.{T}
+use Rattle.answers.proofs.Tests.{and-intro, and-left, and-right}
 use Rattle.periods.specs.Period.{all, seek}
-
-pub and-intro : (x y : Bool) → T x → T y → T (x && y)
-and-intro true y p q = q
-and-intro false y p q = p
-
-pub and-left : (x y : Bool) → T (x && y) → T x
-and-left true y p = tt
-and-left false y p = p
-
-pub and-right : (x y : Bool) → T (x && y) → T y
-and-right true y p = p
-and-right false y p = absurd p
 
 pub all-sound : (t : ℕ → Bool) (i d : ℕ) → T (all t i d) → (j : ℕ) → i ≤ j → j < i + d → T (t j)
 all-sound t i zero h j x y = absurd (omega arith)

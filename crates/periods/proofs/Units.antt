@@ -3,12 +3,12 @@
 -- the first m - d, which stands in the table; where there is none, only the whole length is left. Assumes nothing.
 use mathlib.Core.Path.{_≡_, refl, sym, ap, _∙_, subst}
 use mathlib.Core.List.{List, [], _∷_, _++_, append-assoc}
-use Prim.Native.Nat.{ℕ, zero, suc, _+_, _-_, _≤_, _<_}
+use Prim.Native.Nat.{ℕ, suc, _+_, _-_, _≤_, _<_}
 use native.Mathlib.Omega.{arith}
 use native.Mathlib.Numerals.{add-one}
 use native.Mathlib.Decide.{decLt, ℕ-discrete}
 use lib.ListN.{length, getD, set, take, drop, length-set, List·getD-append}
-use lib.Seq.{drop-cons, set-at, drop-set-lt, take-suc}
+use lib.Seq.{drop-cons, set-at, drop-set-lt}
 use Rattle.periods.specs.Period.{smallestPeriod, prefixPeriods}
 use Rattle.periods.proofs.InPlace.{PeriodIn, SmallestIn, symbol, period-piece, period-whole, period-longer, period-ends, period-above, period-plus}
 use Rattle.periods.proofs.Claims.{prefix-smallest, prefix-smallest-unique, prefix-periods-length, prefix-periods-at}

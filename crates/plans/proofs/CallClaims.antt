@@ -10,13 +10,13 @@ use native.Mathlib.Decide.{decLt}
 use borrow.Author.Tests.{lt-ltb, le-ltb}
 use lib.Dec.{T, ltb}
 use lib.ListN.{length, drop}
+use Rattle.answers.proofs.Tests.{T-true}
 use Rattle.answers.specs.declared.Refusal.{Refusal}
 use Rattle.answers.specs.declared.Refusal.the-variants.{TooFewPlaces, NotPlan}
 use Rattle.answers.specs.declared.Counted.{Counted}
 use Rattle.answers.specs.declared.Counted.the-variants.{Count, Refused as Counted-Refused}
 use Rattle.answers.specs.Outcome.{Outcome, accepted, refused, refusal, countedView, limit, unlessRefused, tableUnless}
 use Rattle.answers.proofs.Claims.{refusal-injective}
-use Rattle.decimals.proofs.Claims.{T-true}
 use Rattle.factors.specs.Factorization.{Chain}
 use Rattle.factors.specs.Verdict.{verdict, VerdictMeaning, bad-end, no-block, unfinished, fine}
 use Rattle.factors.proofs.VerdictClaims.{verdict-means, accepted-iff, accepted-length}

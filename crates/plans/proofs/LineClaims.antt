@@ -11,10 +11,11 @@ use borrow.Author.Tests.{eq-eqb, ne-eqb}
 use lib.Dec.{T, eqb, eqb→eq}
 use lib.ListN.{length, getD, take, drop, length-append, drop-of-length-le, take-append-drop}
 use lib.Seq.{take-suc, take-length, drop-cons, take-at, drop-at, drop-drop, getD-at, split-at, length-take-le, append-snoc}
-use Rattle.decimals.specs.Decimal.{digits, digits?, value, field}
-use Rattle.decimals.proofs.Claims.{and-both, and-left, and-right, T-true, digits-length, digits-are-digits, digits-value, value-digits, value-bound}
+use Rattle.answers.proofs.Tests.{T-true, and-intro, and-left, and-right}
+use Rattle.decimals.specs.Decimal.{comma, lineEnd, digits, digits?, value, field}
+use Rattle.decimals.proofs.Claims.{digits-length, digits-are-digits, digits-value, value-digits, value-bound}
 use Rattle.decimals.proofs.Loops.{field-length}
-use Rattle.plans.specs.Line.{planBytes, comma, lineEnd, width, greatest, fields, line, Small, IsLine, placeOfLength, placeOfCount, step, bytesFor, placeOfEnd, numberAt, field?, ends?, startsWith, line?, endsIn}
+use Rattle.plans.specs.Line.{planBytes, width, greatest, fields, line, Small, IsLine, placeOfLength, placeOfCount, step, bytesFor, placeOfEnd, numberAt, field?, ends?, startsWith, line?, endsIn}
 use Rattle.plans.proofs.Loops.{fields-append, fields-length, field-is, field-digits, field-comma, ends-length}
 
 -- ---- the parts of a line
@@ -91,11 +92,11 @@ module _ (s : List ℕ) where
   pub parts-line : Parts s → T (line? s)
   unfolding line?
   parts-line P =
-      and-both (startsWith planBytes s) after-start (P .starts)
-      (and-both (digits? (field s placeOfLength width)) after-number (P .number)
-      (and-both (field? s placeOfCount) after-count (P .count)
-      (and-both long? after-long (subst T (sym (eq-eqb (length s) (bytesFor (numberAt s placeOfCount)) (P .long))) tt)
-      (and-both (ends? s (numberAt s placeOfCount)) last? (P .ends) (subst T (sym (eq-eqb (getD s (length s - 1) 0) lineEnd (P .last))) tt)))))
+      and-intro (startsWith planBytes s) after-start (P .starts)
+      (and-intro (digits? (field s placeOfLength width)) after-number (P .number)
+      (and-intro (field? s placeOfCount) after-count (P .count)
+      (and-intro long? after-long (subst T (sym (eq-eqb (length s) (bytesFor (numberAt s placeOfCount)) (P .long))) tt)
+      (and-intro (ends? s (numberAt s placeOfCount)) last? (P .ends) (subst T (sym (eq-eqb (getD s (length s - 1) 0) lineEnd (P .last))) tt)))))
 
 -- ---- a number between other bytes
 
@@ -113,7 +114,7 @@ module _ (s front : List ℕ) (x : ℕ) (back : List ℕ) (at : ℕ) (is : s ≡
 
   pub shown-field : T (field? s at)
   shown-field =
-      and-both (eqb (getD s (at - 1) 0) comma) (digits? (field s at width)) (subst T (sym (eq-eqb (getD s (at - 1) 0) comma shown-comma)) tt)
+      and-intro (eqb (getD s (at - 1) 0) comma) (digits? (field s at width)) (subst T (sym (eq-eqb (getD s (at - 1) 0) comma shown-comma)) tt)
       (subst (λ (t : List ℕ). T (digits? t)) (sym shown-digits) (digits-are-digits width x))
 
   pub shown-number : x ≤ greatest → numberAt s at ≡ x
@@ -156,7 +157,7 @@ module _ (s : List ℕ) (n : ℕ) (ends : List ℕ) (L : IsLine s n ends) where
   unfolding ends?
   ends-stand zero h = tt
   ends-stand (suc k) h =
-      and-both (ends? s k) (field? s (placeOfEnd k)) (ends-stand k (omega arith))
+      and-intro (ends? s k) (field? s (placeOfEnd k)) (ends-stand k (omega arith))
       (shown-field s (head n (length ends) ++ fields (take k ends)) (getD ends k 0) (fields (drop (suc k) ends) ++ lineEnd ∷ []) (placeOfEnd k) (end-cut k h) (front-long k h))
 
   ends-read : (k : ℕ) → k ≤ length ends → endsIn s k ≡ take k ends

@@ -10,13 +10,15 @@ use native.Mathlib.Numerals.{add-one}
 use borrow.Author.Tests.{eq-eqb, ne-eqb, le-ltb, lt-ltb, not-true, not-false}
 use lib.Dec.{T, eqb, eqb→eq}
 use lib.ListN.{length, getD, set, take, drop, length-append, drop-of-length-le, List·getD-append}
-use lib.Seq.{sets, sets-eq, take-suc, drop-cons, set-at, append-snoc, length-take-le, getD-at}
+use lib.Seq.{sets, take-suc, drop-cons, set-at, append-snoc, length-take-le, getD-at}
+use Rattle.answers.proofs.Tests.{and-left, and-right}
+use Rattle.answers.proofs.Stores.{sets-append}
 use Rattle.answers.specs.Outcome.{Outcome, accepted, refused, limit}
-use Rattle.decimals.specs.Decimal.{digits, digits?, field}
-use Rattle.decimals.proofs.Claims.{and-left, and-right, digits-length}
+use Rattle.decimals.specs.Decimal.{comma, lineEnd, digits, digits?, field}
+use Rattle.decimals.proofs.Claims.{digits-length}
 use Rattle.factors.specs.Verdict.{verdictFrom, verdict}
 use Rattle.factors.proofs.VerdictClaims.{verdict-low, verdict-high, verdict-block, verdict-finished, verdict-unfinished}
-use Rattle.plans.specs.Line.{planBytes, comma, lineEnd, width, fields, line, startsWith, step, placeOfLength, placeOfCount, placeOfEnd, bytesFor, numberAt, field?, ends?, endsIn}
+use Rattle.plans.specs.Line.{planBytes, width, fields, line, startsWith, step, placeOfLength, placeOfCount, placeOfEnd, bytesFor, numberAt, field?, ends?, endsIn}
 use Rattle.plans.specs.Calls.{anyPiece, plausible}
 
 -- ---- a test that another function made
@@ -29,26 +31,15 @@ said-no {t} e n = sym e ∙ not-true t n
 
 -- ---- bytes that are stored
 
--- stores one run after another
-pub sets-append : (xs ys l : List ℕ) (i : ℕ) → sets l i (xs ++ ys) ≡ sets (sets l i xs) (i + length xs) ys
-sets-append [] ys l i = ap (λ (j : ℕ). sets l j ys) (sym (omega arith))
-sets-append (x ∷ xs) ys l i =
-    let e : suc i + length xs ≡ i + suc (length xs) = omega arith in
-    sets-append xs ys (set l i x) (suc i) ∙ ap (λ (j : ℕ). sets (sets (set l i x) (suc i) xs) j ys) e
-
 sets-then : (xs ys l : List ℕ) (i j : ℕ) → i + length xs ≡ j → sets l i (xs ++ ys) ≡ sets (sets l i xs) j ys
-sets-then xs ys l i j e = sets-append xs ys l i ∙ ap (λ (k : ℕ). sets (sets l i xs) k ys) e
-
--- bytes that are stored from the front on
-pub sets-front : (vs l : List ℕ) → length vs ≤ length l → sets l 0 vs ≡ vs ++ drop (length vs) l
-sets-front vs l h = let e : 0 + length vs ≡ length vs = omega arith in sets-eq vs l 0 (omega arith) ∙ ap (λ (k : ℕ). vs ++ drop k l) e
+sets-then xs ys l i j e = sets-append l i xs ys ∙ ap (λ (k : ℕ). sets (sets l i xs) k ys) e
 
 -- one more byte of a copy to the front
 pub copy-more : (l from : List ℕ) (i : ℕ) → i < length from → set (sets l 0 (take i from)) i (getD from i 0) ≡ sets l 0 (take (i + 1) from)
 copy-more l from i h =
     let e : 0 + length (take i from) ≡ i = omega (arith, length-take-le i from (omega arith)) in
     sym (ap (sets l 0) (ap (λ (j : ℕ). take j from) (add-one i) ∙ take-suc from i 0 h)
-    ∙ sets-append (take i from) (getD from i 0 ∷ []) l 0
+    ∙ sets-append l 0 (take i from) (getD from i 0 ∷ [])
     ∙ ap (λ (j : ℕ). set (sets l 0 (take i from)) j (getD from i 0)) e)
 
 pub fields-append : (xs ys : List ℕ) → fields (xs ++ ys) ≡ fields xs ++ fields ys
@@ -71,7 +62,7 @@ write-ends-more l ends k h =
     let x : ℕ = getD ends k 0 in
     let e : (placeOfEnd 0 - 1) + length (fields (take k ends)) ≡ placeOfEnd k - 1 = omega (arith, fields-length (take k ends), length-take-le k ends (omega arith)) in
     sym (ap (sets l (placeOfEnd 0 - 1)) (ap (λ (j : ℕ). fields (take j ends)) (add-one k) ∙ fields-more ends k h)
-    ∙ sets-append (fields (take k ends)) (comma ∷ digits width x) l (placeOfEnd 0 - 1)
+    ∙ sets-append l (placeOfEnd 0 - 1) (fields (take k ends)) (comma ∷ digits width x)
     ∙ ap (λ (j : ℕ). sets (sets l (placeOfEnd 0 - 1) (fields (take k ends))) j (comma ∷ digits width x)) e)
 
 -- the stores of a whole line

@@ -6,17 +6,11 @@ use mathlib.Core.List.{List, [], _∷_, _++_}
 use Prim.Native.Nat.{ℕ, zero, suc, _+_, _-_, _*_, _≤_}
 use lib.Dec.{eqb}
 use lib.ListN.{length, getD}
-use Rattle.decimals.specs.Decimal.{digits, digits?, value, field}
+use Rattle.decimals.specs.Decimal.{comma, lineEnd, digits, digits?, value, field}
 
 -- p l a n ,
 abbrev pub planBytes : List ℕ
 planBytes = 112 ∷ 108 ∷ 97 ∷ 110 ∷ 44 ∷ []
-
-abbrev pub comma : ℕ
-comma = 44
-
-abbrev pub lineEnd : ℕ
-lineEnd = 10
 
 -- "exactly four digits"
 abbrev pub width : ℕ

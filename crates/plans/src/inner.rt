@@ -5,19 +5,19 @@ ghost use Prim.Native.Nat.{_≤_, _+_, _-_, _<_, _^_};
 ghost use lib.Dec.{T};
 ghost use lib.ListN.{length, drop};
 ghost use lib.Seq.{sets};
-ghost use Rattle.decimals.specs.Decimal.{digits, digits?, field};
+ghost use Rattle.decimals.specs.Decimal.{comma, digits, digits?, field};
 ghost use Rattle.answers.specs.Outcome.{countedView};
-ghost use Rattle.plans.specs.Line.{comma, fields, line, width, numberAt, field?, ends?, endsIn, bytesFor, placeOfEnd};
+ghost use Rattle.plans.specs.Line.{fields, line, width, numberAt, field?, ends?, endsIn, bytesFor, placeOfEnd};
 ghost use Rattle.plans.specs.Calls.{plausible};
-use crate::COMMA;
 use crate::COUNT_PLACE;
 use crate::LENGTH_PLACE;
-use crate::LINE_END;
 use crate::SHORTEST;
 use crate::STEP;
 use crate::WIDTH;
 use answers::Counted;
 use answers::Refusal;
+use decimals::COMMA;
+use decimals::LINE_END;
 
 // Copies bytes to the front of others.
 pub fn copy(out: &mut [u8], from: &[u8])

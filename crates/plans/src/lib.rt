@@ -9,6 +9,7 @@ pub mod inner;
 
 use answers::Counted;
 use answers::Refusal;
+use decimals::LINE_END;
 
 // A line with k ends has SHORTEST + STEP × k bytes; end number k + 1 stands at that place.
 pub const SHORTEST: usize = 15;
@@ -22,11 +23,6 @@ pub const WIDTH: usize = 4;
 pub const LENGTH_PLACE: usize = 5;
 
 pub const COUNT_PLACE: usize = 10;
-
-// The byte before a number, and the last byte of a line.
-pub const COMMA: u8 = 44;
-
-pub const LINE_END: u8 = 10;
 
 // The answer of the plan reader: n and the count of ends.
 pub enum PlanAnswer {

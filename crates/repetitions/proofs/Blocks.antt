@@ -11,8 +11,8 @@ use native.Mathlib.Nat.{mul-le-mul-right}
 use lib.Dec.{T, leb, leb→le, le→leb}
 use lib.ListN.{length, take, length-take}
 use lib.Seq.{getD-take, ext-getD}
+use Rattle.answers.proofs.Tests.{and-intro, and-left, and-right}
 use Rattle.periods.specs.Period.{part, SmallestPeriod, Repetition, repetition?}
-use Rattle.periods.proofs.Search.{and-intro, and-left, and-right}
 use Rattle.periods.proofs.InPlace.{SmallestIn, symbol, Placed, placed-part, smallest-in, smallest-out}
 use Rattle.periods.proofs.Claims.{repetition-sound, repetition-complete}
 use Rattle.factors.specs.Factorization.{Chain, Factorization}

@@ -6,9 +6,9 @@ use mathlib.Core.List.{List, [], _∷_, _++_}
 use Prim.Native.Nat.{ℕ, _+_, _-_, _*_}
 use lib.Dec.{T, eqb, eqb→eq}
 use lib.ListN.{length, replicate}
+use Rattle.answers.proofs.Tests.{and-left, and-right}
 use Rattle.answers.specs.Outcome.{Outcome, accepted, refused}
 use Rattle.periods.specs.Period.{smallestPeriod, repetition?}
-use Rattle.periods.proofs.Search.{and-left, and-right}
 use Rattle.runs.specs.Table.{run?, runBetween, rowsAt, rowsBefore, runsOf}
 use Rattle.runs.specs.Inner.{entryOf}
 use Rattle.factors.specs.Factorization.{cell, bestEnds}

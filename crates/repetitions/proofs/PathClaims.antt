@@ -10,9 +10,9 @@ use native.Mathlib.Decide.{decLt, ℕ-discrete}
 use borrow.Author.Tests.{lt-ltb, le-ltb, eq-eqb, ne-eqb}
 use lib.Dec.{T, leb, ltb, eqb, leb→le, le→leb, eqb→eq, eqb-refl, eqb·suc-zero}
 use lib.ListN.{length, drop}
+use Rattle.answers.proofs.Tests.{and-intro, and-left, and-right}
 use Rattle.answers.specs.Outcome.{Outcome, accepted, refused, limit, tableUnless}
 use Rattle.periods.specs.Period.{part, smallestPeriod, anyPeriod, turns}
-use Rattle.periods.proofs.Search.{and-intro, and-left, and-right}
 use Rattle.periods.proofs.InPlace.{symbol}
 use Rattle.runs.specs.Run.{Row, Entry}
 use Rattle.runs.specs.Table.{runsOf}

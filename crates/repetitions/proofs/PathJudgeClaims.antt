@@ -11,9 +11,9 @@ use native.Mathlib.Decide.{decLt, decLe, ℕ-discrete}
 use borrow.Author.Tests.{lt-ltb, le-ltb, le-leb, lt-leb, eq-eqb, ne-eqb}
 use lib.Dec.{T, leb, leb→le, le→leb}
 use lib.ListN.{length, getD, drop}
+use Rattle.answers.proofs.Tests.{T-true, and-intro, and-left, and-right, and-true}
 use Rattle.answers.specs.Outcome.{Outcome, accepted, refused, limit}
 use Rattle.periods.specs.Period.{anyPeriod, turns}
-use Rattle.periods.proofs.Search.{and-intro, and-left, and-right}
 use Rattle.runs.specs.Run.{Row, Entry}
 use Rattle.runs.specs.Table.{runsOf}
 use Rattle.runs.specs.Inner.{entryOf}
@@ -88,10 +88,6 @@ module _ (allowed : ℕ → Bool) (k : ℕ) (w : List ℕ) (r i j : ℕ) where
   pub segment-decides : T (inRun? allowed k (entryOf (runsOf w) r) i j) ↔ Segment allowed k w r i j
   segment-decides = (in-run-sound (entryOf (runsOf w) r) refl, in-run-complete)
 
-and-true : (b : Bool) → b ≡ b && true
-and-true true = refl
-and-true false = refl
-
 -- the test, one comparison at a time
 module _ (r : Row) (i j : ℕ) where
   pub run-starts-later : i + 1 < r .first → false ≡ inRun? anyPeriod turns (r ∷ []) i j
@@ -101,7 +97,7 @@ module _ (r : Row) (i j : ℕ) where
   run-ends-before l h = simp (le-leb (r .first) (i + 1) l, lt-leb j (r .last) h)
 
   pub run-encloses : r .first ≤ i + 1 → j ≤ r .last → leb (i + turns * r .period) j ≡ inRun? anyPeriod turns (r ∷ []) i j
-  run-encloses l h = rw (le-leb (r .first) (i + 1) l, le-leb j (r .last) h) (and-true (leb (i + turns * r .period) j))
+  run-encloses l h = rw (le-leb (r .first) (i + 1) l, le-leb j (r .last) h) (sym (and-true (leb (i + turns * r .period) j)))
 
 -- the test of block number k + 1, from the run that was looked up
 pub segment-test : (w ns : List ℕ) (k i j : ℕ) (rows : List Row) → k + k + 1 < length ns → rows ≡ entryOf (runsOf w) (getD ns (k + k) 0)
@@ -125,10 +121,6 @@ module _ (block? : ℕ → ℕ → ℕ → Bool) (n k i : ℕ) (ns : List ℕ) w
 
 clash : (o : Outcome) (x y : ℕ) (v : List ℕ) → o ≡ refused x y → o ≡ accepted v → ⊥
 clash o x y v e d = let z : _≡_ {A = ℕ} 0 1 = cc in omega arith
-
-T-true : (t : Bool) → T t → t ≡ true
-T-true true h = refl
-T-true false h = absurd h
 
 module _ (w : List ℕ) (t : ℕ → ℕ → ℕ → Bool) where
   -- from block number k + 1 on the test goes by the run numbers of ns

@@ -1,9 +1,9 @@
 -- Best split: what it answers, what it leaves in both tables, and what that means. "Best split: 1, 8, 9, 2, 7."
 use mathlib.Core.Path.{_≡_}
 use mathlib.Core.Logic.{_⊎_}
-use mathlib.Core.Bool.{Bool, cond, _||_}
+use mathlib.Core.Bool.{cond, _||_}
 use mathlib.Core.List.{List, [], _∷_, _++_}
-use Prim.Native.Nat.{ℕ, zero, suc, _+_, _*_, _≤_, _<_}
+use Prim.Native.Nat.{ℕ, _+_, _*_, _≤_, _<_}
 use lib.Dec.{ltb}
 use lib.ListN.{length, getD, take, drop, replicate}
 use Rattle.answers.specs.declared.Refusal.the-variants.{TooLong, NoFactorization, TooFewPlaces, BadChoice, ShortTable}

@@ -7,6 +7,7 @@ use native.Mathlib.Omega.{arith}
 use native.Mathlib.Decide.{decLt}
 use borrow.Author.Tests.{lt-ltb, le-ltb}
 use lib.ListN.{length, drop, length-append, length-drop}
+use Rattle.answers.proofs.Stores.{sets-front}
 use Rattle.answers.specs.declared.Counted.{Counted}
 use Rattle.answers.specs.declared.Counted.the-variants.{Count, Refused}
 use Rattle.answers.specs.declared.Refusal.{Refusal}
@@ -15,7 +16,7 @@ use Rattle.periods.specs.Period.{anyPeriod, turns}
 use Rattle.runs.specs.Table.{runsOf, stride, flat}
 use Rattle.runs.specs.Inner.{records}
 use Rattle.runs.specs.Calls.{runsOutcome, runsTable}
-use Rattle.runs.proofs.Rows.{length-flat, sets-front}
+use Rattle.runs.proofs.Rows.{length-flat}
 use Rattle.runs.proofs.Records.{records-left}
 use Rattle.runs.proofs.Listed.{runs-listed}
 use Rattle.factors.specs.Factorization.{choiceOf, Cell, unreachable, reached}

@@ -11,12 +11,13 @@ use borrow.Author.Tests.{lt-ltb, le-ltb}
 use lib.Dec.{ltb}
 use lib.ListN.{length, getD, set, take, drop, length-append, drop-of-length-le}
 use lib.Seq.{sets, length-sets, drop-cons, take-at}
+use Rattle.answers.proofs.Stores.{sets-append, sets-front}
 use Rattle.answers.specs.Outcome.{accepted, refused}
-use Rattle.decimals.specs.Decimal.{digits, digitCount, plain}
+use Rattle.decimals.specs.Decimal.{comma, lineEnd, digits, digitCount, plain}
 use Rattle.decimals.proofs.Claims.{digits-length}
-use Rattle.runs.proofs.Rows.{sets-append, sets-front, stored-nowhere}
+use Rattle.runs.proofs.Rows.{stored-nowhere}
 use Rattle.report.specs.Records.{printedOutcome, printedTable}
-use Rattle.report.specs.Text.{comma, lineEnd, fieldsOf, line}
+use Rattle.report.specs.Text.{fieldsOf, line}
 
 -- ---- stored, and left to store
 

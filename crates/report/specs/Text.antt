@@ -11,7 +11,7 @@ use Rattle.periods.specs.Period.{part, smallestPeriod, anyPeriod, turns}
 use Rattle.runs.specs.Run.{Row}
 use Rattle.runs.specs.Table.{runsOf, numbersOf}
 use Rattle.factors.specs.Factorization.{choiceOf, Cell, unreachable, reached, bestEnds}
-use Rattle.decimals.specs.Decimal.{plain}
+use Rattle.decimals.specs.Decimal.{comma, lineEnd, plain}
 use Rattle.repetitions.specs.Block.{block?}
 use Rattle.repetitions.specs.BestSplit.{lastCell}
 use Rattle.repetitions.specs.Judges.{runNumber}
@@ -23,12 +23,6 @@ programLimit = 1024
 -- and so many run records
 abbrev pub recordLimit : ℕ
 recordLimit = 1024
-
-abbrev pub comma : ℕ
-comma = 44
-
-abbrev pub lineEnd : ℕ
-lineEnd = 10
 
 -- p a s s e s
 abbrev pub passesName : List ℕ

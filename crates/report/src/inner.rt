@@ -11,13 +11,15 @@ ghost use Rattle.periods.specs.Period.{anyPeriod, turns};
 ghost use Rattle.runs.specs.Table.{stride, runsOf};
 ghost use Rattle.runs.specs.Inner.{records};
 ghost use Rattle.factors.specs.Factorization.{Factorization};
-ghost use Rattle.decimals.specs.Decimal.{plain};
+ghost use Rattle.decimals.specs.Decimal.{comma, plain};
 ghost use Rattle.repetitions.specs.Block.{Block};
-ghost use Rattle.report.specs.Text.{programLimit, recordLimit, comma, refusedText, line, runLines, blockLine, blockLines, splitText, text};
+ghost use Rattle.report.specs.Text.{programLimit, recordLimit, refusedText, line, runLines, blockLine, blockLines, splitText, text};
 ghost use Rattle.report.specs.Records.{heldRows, printedOutcome, printedTable};
 use crate::PROGRAM_LIMIT;
 use answers::Counted;
 use answers::Refusal;
+use decimals::COMMA;
+use decimals::LINE_END;
 use finder::RECORDS;
 use finder::Run;
 
@@ -28,10 +30,6 @@ const MOST: u32 = 2;
 
 // A block has two symbols at least.
 const MOST_BLOCKS: usize = PROGRAM_LIMIT / 2;
-
-const COMMA: u8 = 44;
-
-const LINE_END: u8 = 10;
 
 // Stores a byte where there is a place for it.
 fn put_byte(out: &mut [u8], at: usize, b: u8) -> usize

@@ -10,13 +10,14 @@ use borrow.Author.Tests.{lt-ltb, le-ltb}
 use lib.Dec.{ltb}
 use lib.ListN.{length, drop}
 use lib.Seq.{sets}
+use Rattle.answers.proofs.Stores.{sets-front}
 use Rattle.answers.specs.Outcome.{Outcome, accepted, refused, limit}
 use Rattle.periods.specs.Period.{anyPeriod, turns}
 use Rattle.runs.specs.Table.{runsOf, stride, flat, nodesAt}
 use Rattle.runs.specs.Calls as calls
 use Rattle.runs.specs.Calls.{runsOutcome, runsTable, RunsMeaning, nodesOutcome, nodesTable, NodesMeaning, ListsNodes}
 use Rattle.runs.proofs.Listed.{runs-listed}
-use Rattle.runs.proofs.Rows.{length-flat, sets-front}
+use Rattle.runs.proofs.Rows.{length-flat}
 use Rattle.runs.proofs.WhiteNodes.{nodes-listed}
 
 -- numbers that are stored at the front of a table with room for them

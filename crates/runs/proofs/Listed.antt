@@ -10,8 +10,8 @@ use native.Mathlib.Omega.{arith}
 use native.Mathlib.Decide.{decLt, ℕ-discrete}
 use lib.Dec.{T, eqb, eqb→eq, eqb-refl, T-not, not-T}
 use lib.ListN.{length}
+use Rattle.answers.proofs.Tests.{and-intro, and-left, and-right}
 use Rattle.periods.specs.Period.{part, smallestPeriod, repetition?, anyPeriod}
-use Rattle.periods.proofs.Search.{and-intro, and-left, and-right}
 use Rattle.periods.proofs.InPlace.{SmallestIn, symbol, Placed, placed-part, smallest-in, smallest-out, period-piece}
 use Rattle.periods.proofs.Claims.{smallest-period-is, smallest-period-unique, repetition-sound, repetition-complete}
 use Rattle.runs.specs.Run.{Row, Run, Entry, Before, Sorted, Lists}

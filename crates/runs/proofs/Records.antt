@@ -13,11 +13,12 @@ use borrow.Author.Tests.{eq-eqb, ne-eqb}
 use lib.Dec.{eqb, eqb·suc-zero}
 use lib.ListN.{length, getD, drop, length-append}
 use lib.Seq.{sets}
+use Rattle.answers.proofs.Stores.{sets-front}
 use Rattle.runs.specs.Run.{Row, Entry}
 use Rattle.runs.specs.Table.{rowsAt, rowsBefore, runsOf, stride, flat}
 use Rattle.runs.specs.Inner.{unitsAt, records, withPeriod, numberOf, entryOf, unitsFound, rowsFound}
 use Rattle.runs.proofs.Listed.{at-sound}
-use Rattle.runs.proofs.Rows.{length-flat, sets-front, before-more, count-more}
+use Rattle.runs.proofs.Rows.{length-flat, before-more, count-more}
 
 -- ---- the records of a table
 

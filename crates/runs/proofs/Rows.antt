@@ -7,11 +7,12 @@ use mathlib.Core.List.{List, [], _∷_, _++_, append-assoc, append-nil}
 use Prim.Native.Nat.{ℕ, zero, suc, _+_, _-_, _*_, _≤_, _<_}
 use native.Mathlib.Omega.{arith}
 use native.Mathlib.Numerals.{add-one}
-use native.Mathlib.Nat.{add-zero, zero-add}
+use native.Mathlib.Nat.{zero-add}
 use borrow.Author.Tests.{le-leb, lt-leb, eq-eqb, ne-eqb}
 use lib.Dec.{leb, eqb}
 use lib.ListN.{length, getD, set, drop, length-append, length-drop, List·getD-append}
-use lib.Seq.{sets, sets-eq, take-take, drop-cons, set-at}
+use lib.Seq.{sets, take-take, drop-cons, set-at}
+use Rattle.answers.proofs.Stores.{sets-append, sets-none}
 use Rattle.answers.specs.Outcome.{limit}
 use Rattle.periods.specs.Period.{part, smallestPeriod, repetition?, anyPeriod, prefixPeriods}
 use Rattle.periods.proofs.InPlace.{placed-part}
@@ -143,25 +144,11 @@ pub length-flat : (xs : List Row) → length (flat xs) ≡ stride * length xs
 length-flat [] = refl
 length-flat (x ∷ xs) = omega (arith, length-flat xs)
 
-pub sets-append : (t : List ℕ) (i : ℕ) (xs ys : List ℕ) → sets t i (xs ++ ys) ≡ sets (sets t i xs) (i + length xs) ys
-sets-append t i [] ys = ap (λ (k : ℕ). sets t k ys) (sym (add-zero i))
-sets-append t i (x ∷ xs) ys =
-    let e : suc i + length xs ≡ i + suc (length xs) = omega arith in
-    sets-append (set t i x) (suc i) xs ys ∙ ap (λ (k : ℕ). sets (sets (set t i x) (suc i) xs) k ys) e
-
-pub sets-none : (i : ℕ) (vs : List ℕ) → sets [] i vs ≡ []
-sets-none i [] = refl
-sets-none i (v ∷ vs) = sets-none (suc i) vs
-
 -- the records of more rows, stored behind those of the first
 pub put-rows : (t : List ℕ) (i : ℕ) (xs ys : List Row) → sets t (stride * i) (flat (xs ++ ys)) ≡ sets (sets t (stride * i) (flat xs)) (stride * (i + length xs)) (flat ys)
 put-rows t i xs ys =
     let e : stride * i + length (flat xs) ≡ stride * (i + length xs) = omega (arith, length-flat xs) in
     ap (sets t (stride * i)) (flat-append xs ys) ∙ sets-append t (stride * i) (flat xs) (flat ys) ∙ ap (λ (k : ℕ). sets (sets t (stride * i) (flat xs)) k (flat ys)) e
-
--- where there is room, the records stand at the front and the rest stays
-pub sets-front : (t vs : List ℕ) → length vs ≤ length t → sets t 0 vs ≡ vs ++ drop (length vs) t
-sets-front t vs h = sets-eq vs t 0 (omega arith) ∙ ap (λ (k : ℕ). vs ++ drop k t) (zero-add (length vs))
 
 -- what is stored in no places
 pub stored-nowhere : (t e vs : List ℕ) (i : ℕ) → e ≡ sets [] i vs → e ++ t ≡ t

@@ -1,5 +1,5 @@
 -- What the inner functions leave in the tables that they are lent, and what the look-ups give.
-use mathlib.Core.Bool.{Bool, cond}
+use mathlib.Core.Bool.{cond}
 use mathlib.Core.List.{List, [], _∷_, _++_}
 use Prim.Native.Nat.{ℕ, zero, suc, _+_, _-_, _*_}
 use lib.Dec.{eqb}
@@ -9,7 +9,7 @@ use Rattle.periods.specs.Period.{part, prefixPeriods}
 use Rattle.runs.specs.declared.inner.Found.{Found}
 use Rattle.runs.specs.declared.inner.Found.the-variants.{Run, Nothing}
 use Rattle.runs.specs.Run.{Row}
-use Rattle.runs.specs.Table.{rowsAt, rowsBefore, stride, flat, node?, numbersWhere}
+use Rattle.runs.specs.Table.{rowsAt, rowsBefore, stride, flat}
 
 -- the table of units after the runs that start after boundary a were looked for
 abbrev pub unitsAt : List ℕ → ℕ → List ℕ → List ℕ

@@ -5,10 +5,10 @@ use Prim.Native.Nat.{ℕ, _≤_}
 use native.Mathlib.Omega.{arith}
 use borrow.Author.Needs.{needs}
 use lib.ListN.{length}
+use Rattle.answers.proofs.Stores.{sets-front}
 use Rattle.answers.specs.Outcome.{accepted, limit}
 use Rattle.plans.specs.Line.{line, bytesFor}
 use Rattle.plans.specs.Calls.{plausible}
-use Rattle.plans.proofs.Loops.{sets-front}
 use Rattle.plans.proofs.LineClaims.{length-line}
 use Rattle.plans.proofs.CallClaims.{plausible-low, plausible-length, judge-counts, judge-refuses, write-refused, write-too-few, write-written, write-answered}
 use Rattle.plans.proofs.write_plan.Statement.{statement}
@@ -84,7 +84,7 @@ returns-3 c =
     let w = write-written (g .n) (g .ends .now) (g .out .now) _ (judged counted .0) long in
     write-answered (g .n) (g .ends .now) (g .out .now) _ _
     (ap (λ (x : ℕ). accepted (x ∷ [])) (sym (b .1)) ∙ w .0)
-    (c .before .before .write-line .ensures ∙ sets-front (line (g .n) (g .ends .now)) (g .out .now) long ∙ w .1)
+    (c .before .before .write-line .ensures ∙ sets-front (g .out .now) (line (g .n) (g .ends .now)) long ∙ w .1)
 
 pub write-plan-spec : {M : Type 1} → statement M
 write-plan-spec =

@@ -3,7 +3,7 @@ use mathlib.Core.Path.{_≡_, sym, ap, _∙_}
 use mathlib.Core.Bool.{true}
 use Prim.Native.Nat.{_-_, _≤_}
 use native.Mathlib.Omega.{arith}
-use Rattle.decimals.proofs.Claims.{T-true}
+use Rattle.answers.proofs.Tests.{T-true}
 use Rattle.plans.specs.Line.{placeOfEnd, ends?, field?}
 use Rattle.plans.proofs.Loops.{said-yes, said-no, ends-none, ends-more, ends-fail}
 use Rattle.plans.proofs.inner.ends_at.Statement.{statement}

@@ -5,8 +5,8 @@ use Prim.Native.Nat.{ℕ, _-_, _≤_}
 use native.Mathlib.Omega.{arith}
 use lib.ListN.{length, getD, take}
 use lib.Seq.{sets, take-length}
-use Rattle.decimals.specs.Decimal.{digits}
-use Rattle.plans.specs.Line.{comma, width, fields, placeOfEnd}
+use Rattle.decimals.specs.Decimal.{comma, digits}
+use Rattle.plans.specs.Line.{width, fields, placeOfEnd}
 use Rattle.plans.proofs.Loops.{write-ends-more}
 use Rattle.plans.proofs.inner.write_ends.Statement.{statement}
 use Rattle.plans.proofs.inner.write_ends.Tie as tie

@@ -5,8 +5,8 @@ use native.Mathlib.Omega.{arith}
 use borrow.Author.Needs.{needs}
 use lib.ListN.{set, length-set}
 use lib.Seq.{sets}
-use Rattle.decimals.specs.Decimal.{digits}
-use Rattle.plans.specs.Line.{comma, width}
+use Rattle.decimals.specs.Decimal.{comma, digits}
+use Rattle.plans.specs.Line.{width}
 use Rattle.plans.proofs.inner.write_field.Statement.{statement}
 use Rattle.plans.proofs.inner.write_field.Tie as tie
 

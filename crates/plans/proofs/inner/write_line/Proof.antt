@@ -5,8 +5,8 @@ use Prim.Native.Nat.{ℕ, _-_}
 use borrow.Author.Needs.{needs}
 use lib.ListN.{length, set, length-set}
 use lib.Seq.{sets}
-use Rattle.decimals.specs.Decimal.{digits}
-use Rattle.plans.specs.Line.{comma, lineEnd, width, fields, placeOfLength, placeOfCount, placeOfEnd, bytesFor}
+use Rattle.decimals.specs.Decimal.{comma, lineEnd, digits}
+use Rattle.plans.specs.Line.{width, fields, placeOfLength, placeOfCount, placeOfEnd, bytesFor}
 use Rattle.plans.proofs.Loops.{write-line-is}
 use Rattle.plans.proofs.inner.write_line.Statement.{statement}
 use Rattle.plans.proofs.inner.write_line.Tie as tie

@@ -5,8 +5,7 @@ use Prim.Native.Nat.{ℕ, _-_}
 use native.Mathlib.Omega.{arith}
 use borrow.Author.Needs.{needs}
 use lib.ListN.{take, replicate, length-take}
-use Rattle.decimals.specs.Decimal.{plain, digits}
-use Rattle.report.specs.Text.{comma}
+use Rattle.decimals.specs.Decimal.{comma, plain, digits}
 use Rattle.report.proofs.Stores.{stored, stored-as, ensured, left-all, left-less, left-last, count-most, digits-front}
 use Rattle.report.proofs.inner.put_field.Statement.{statement}
 use Rattle.report.proofs.inner.put_field.Tie as tie

@@ -4,8 +4,8 @@ use mathlib.Core.List.{[], _∷_, _++_}
 use Prim.Native.Nat.{_+_, _-_, _≤_}
 use native.Mathlib.Omega.{arith}
 use lib.ListN.{length, getD, drop}
-use Rattle.decimals.specs.Decimal.{plain}
-use Rattle.report.specs.Text.{comma, lineEnd, fieldsOf, line}
+use Rattle.decimals.specs.Decimal.{comma, lineEnd, plain}
+use Rattle.report.specs.Text.{fieldsOf, line}
 use Rattle.report.proofs.Stores.{Left, stored, ensured, stored-length, left-all, left-as, left-less, left-none, left-last, fields-more, fields-done, fields-long, line-is}
 use Rattle.report.proofs.inner.put_line.Statement.{statement}
 use Rattle.report.proofs.inner.put_line.Tie as tie

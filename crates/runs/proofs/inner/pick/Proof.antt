@@ -6,10 +6,10 @@ use native.Mathlib.Omega.{arith}
 use borrow.Author.Tests.{not-true, not-false}
 use lib.ListN.{length, length-append}
 use lib.Seq.{sets, length-sets}
+use Rattle.answers.proofs.Stores.{sets-append}
 use Rattle.periods.specs.Period.{anyPeriod, turns}
 use Rattle.runs.specs.Table.{node?, numbersWhere}
 use Rattle.runs.specs.Inner.{records}
-use Rattle.runs.proofs.Rows.{sets-append}
 use Rattle.runs.proofs.Records.{records-none, length-records}
 use Rattle.runs.proofs.WhiteNodes.{numbers-at-most, pick-skip, pick-add}
 use Rattle.runs.proofs.inner.pick.Statement.{statement}
