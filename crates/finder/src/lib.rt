@@ -1,9 +1,9 @@
 // The finder over a lent slice of run records. The borrow checker covers no function that has a
-// slice of structs, so find_run and find_in are proved by hand; everything else here is covered.
+// slice of structs, so find_run and inner::find_in are proved by hand; everything else here is covered.
 ghost use mathlib.Core.Path.{_≡_};
-ghost use Prim.Native.Nat.{_*_, _≤_};
-ghost use lib.ListN.{length, take};
-ghost use Rattle.finder.specs.Find.{enclosesb, findRun, findIn, recordsOf};
+ghost use Rattle.finder.specs.Find.{enclosesb, findRun};
+
+pub mod inner;
 
 // How many records the bench program holds.
 pub const RECORDS: usize = 1024;
@@ -44,38 +44,4 @@ pub fn find_run(runs: &[Run], first: u32, last: u32, period: u32) -> usize
         i = i + 1;
     }
     i
-}
-
-// The same over the first count records of an array, which is lent for the call.
-pub fn find_in(runs: [Run; RECORDS], count: usize, first: u32, last: u32, period: u32) -> usize
-    requires { ⌜ count ≤ 1024 ⌝ }
-    ensures { λ r. ⌜ r ≡ findIn runs count first last period ⌝ }
-{
-    find_run(&runs[..count], first, last, period)
-}
-
-// The records of a flat table.
-pub fn records(table: &[u32], count: usize) -> [Run; RECORDS]
-    requires { ⌜ count ≤ 1024 ⌝ ∗ ⌜ count * 3 ≤ length (now table) ⌝ }
-    ensures { λ r. ⌜ take count r ≡ recordsOf (now (table .entry)) count ⌝ }
-{
-    let mut runs = [Run {
-        first: 0,
-        last: 0,
-        period: 0,
-    }; RECORDS];
-    let mut i = 0;
-    while i < count {
-        let at = i * STRIDE;
-        let first = table[at];
-        let last = table[at + 1];
-        let period = table[at + 2];
-        runs[i] = Run {
-            first,
-            last,
-            period,
-        };
-        i = i + 1;
-    }
-    runs
 }

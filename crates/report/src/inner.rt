@@ -127,7 +127,7 @@ fn block_line(
     ensures { λ _. ⌜ now (out .exit) ≡ sets (now (out .entry)) at (blockLine (now (w .entry)) (k + 1) before end) ⌝ }
 {
     let unit = periods::smallest_period(&w[before..end]);
-    let run = finder::find_in(runs, count, (before + 1) as u32, end as u32, unit as u32) + 1;
+    let run = finder::inner::find_in(runs, count, (before + 1) as u32, end as u32, unit as u32) + 1;
     let len = end - before;
     let numbers = [
         (k + 1) as u32,
@@ -221,7 +221,7 @@ pub fn print(w: &[u8], table: &[u32], count: usize, out: &mut [u8]) -> Counted
     ensures { λ r. ⌜ countedView r ≡ printedOutcome (text (now (w .entry))) (length (now (out .entry))) ⌝ }
     ensures { λ _. ⌜ now (out .exit) ≡ printedTable (text (now (w .entry))) (now (out .entry)) ⌝ }
 {
-    let runs = finder::records(table, count);
+    let runs = finder::inner::records(table, count);
     let zero: usize = 0;
     let size = write_text(w, table, runs, count, &mut out[zero..zero]);
     if out.len() < size {

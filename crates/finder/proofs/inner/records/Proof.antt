@@ -1,4 +1,4 @@
--- `finder::records` meets its contract: the records passed are those of the table.
+-- `finder::inner::records` meets its contract: the records passed are those of the table.
 -- Assumes nothing.
 use mathlib.Core.Path.{_≡_, refl, sym, _∙_, ap, subst}
 use Prim.Native.Nat.{ℕ, _≤_, _<_, _-_, _+_, zero-le}
@@ -10,8 +10,8 @@ use lib.ListN.{length, take, set, length-set}
 use lib.Seq.{take-suc-set}
 use Rattle.finder.specs.Find.{recordsOf, recordAt}
 use Rattle.finder.specs.declared.Run.{Run}
-use Rattle.finder.proofs.records.Statement.{statement}
-use Rattle.finder.proofs.records.Tie as tie
+use Rattle.finder.proofs.inner.records.Statement.{statement}
+use Rattle.finder.proofs.inner.records.Tie as tie
 
 -- one record more
 next-take : (t : List ℕ) (runs : List Run) (i : ℕ) → i < length runs → take i runs ≡ recordsOf t i → take (i + 1) (set runs i (recordAt t i)) ≡ recordsOf t (i + 1)

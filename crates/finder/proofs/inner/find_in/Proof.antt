@@ -1,4 +1,4 @@
--- `finder::find_in` meets its contract: a walk of its MIR, by hand. The array is copied into a local, which is lent whole by `&` for a lifetime that the walk makes; of that `&[Run]` the first count records are passed on to `find_run`.
+-- `finder::inner::find_in` meets its contract: a walk of its MIR, by hand. The array is copied into a local, which is lent whole by `&` for a lifetime that the walk makes; of that `&[Run]` the first count records are passed on to `find_run`.
 -- Once the call has returned, the lifetime is ended, and the local is the function's own again. All that the proof knows of `find_run` is that it meets its contract.
 -- Assumes nothing.
 use mathlib.Core.Path.{_≡_, refl, sym, ap, subst}
@@ -59,10 +59,10 @@ use Rattle.finder.proofs.find_run as find
 use Rattle.finder.proofs.find_run.Symbol as find-def
 use Rattle.finder.proofs.find_run.Symbol.{name as #finder·find-run}
 use Rattle.finder.proofs.find_run.Met as find-thm
-use Rattle.finder.proofs.find_in.Key.{name as #finder·find-in}
-use Rattle.finder.proofs.find_in as find-in
-use Rattle.finder.proofs.find_in.Statement as stated
-use Rattle.finder.proofs.find_in.Code as code
+use Rattle.finder.proofs.inner.find_in.Key.{name as #finder·find-in}
+use Rattle.finder.proofs.inner.find_in as find-in
+use Rattle.finder.proofs.inner.find_in.Statement as stated
+use Rattle.finder.proofs.inner.find_in.Code as code
 
 -- how many records the array has
 abbrev N : ℕ
