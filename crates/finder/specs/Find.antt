@@ -6,6 +6,14 @@ use lib.ListN.{take, getD}
 use lib.Dec.{leb, eqb}
 use Rattle.finder.specs.declared.Run.{Run}
 
+-- how many records the bench program holds
+abbrev pub recordLimit : ℕ
+recordLimit = 1024
+
+-- the numbers of a record in a flat table
+abbrev pub recordSize : ℕ
+recordSize = 3
+
 -- the bounds lo to hi enclose first to last, and the periods are the same
 abbrev pub enclosesb : ℕ → ℕ → ℕ → ℕ → ℕ → ℕ → Bool
 enclosesb lo hi p first last period = leb lo first && (leb last hi && eqb p period)
@@ -24,10 +32,11 @@ findRun (r ∷ rs) first last period = step (enclosesb (r .first) (r .last) (r .
 abbrev pub findIn : List Run → ℕ → ℕ → ℕ → ℕ → ℕ
 findIn rs count first last period = findRun (take count rs) first last period
 
--- the first n records of a flat table, three numbers a record
+-- record n of a flat table
 abbrev pub recordAt : List ℕ → ℕ → Run
-recordAt t n = record { first = getD t (n * 3) 0; last = getD t (n * 3 + 1) 0; period = getD t (n * 3 + 2) 0 }
+recordAt t n = record { first = getD t (n * recordSize) 0; last = getD t (n * recordSize + 1) 0; period = getD t (n * recordSize + 2) 0 }
 
+-- the first n records of a flat table
 abbrev pub recordsOf : List ℕ → ℕ → List Run
 recordsOf t zero = []
 recordsOf t (suc n) = recordsOf t n ++ (recordAt t n ∷ [])

@@ -2,14 +2,14 @@
 ghost use mathlib.Core.Path.{_≡_};
 ghost use Prim.Native.Nat.{_*_, _≤_};
 ghost use lib.ListN.{length, take};
-ghost use Rattle.finder.specs.Find.{findIn, recordsOf};
+ghost use Rattle.finder.specs.Find.{recordLimit, recordSize, findIn, recordsOf};
 use crate::RECORDS;
 use crate::Run;
 use crate::STRIDE;
 
 // find_run over the first count records of an array, which is lent for the call.
 pub fn find_in(runs: [Run; RECORDS], count: usize, first: u32, last: u32, period: u32) -> usize
-    requires { ⌜ count ≤ 1024 ⌝ }
+    requires { ⌜ count ≤ recordLimit ⌝ }
     ensures { λ r. ⌜ r ≡ findIn runs count first last period ⌝ }
 {
     crate::find_run(&runs[..count], first, last, period)
@@ -17,7 +17,7 @@ pub fn find_in(runs: [Run; RECORDS], count: usize, first: u32, last: u32, period
 
 // The records of a flat table.
 pub fn records(table: &[u32], count: usize) -> [Run; RECORDS]
-    requires { ⌜ count ≤ 1024 ⌝ ∗ ⌜ count * 3 ≤ length (now table) ⌝ }
+    requires { ⌜ count ≤ recordLimit ⌝ ∗ ⌜ count * recordSize ≤ length (now table) ⌝ }
     ensures { λ r. ⌜ take count r ≡ recordsOf (now (table .entry)) count ⌝ }
 {
     let mut runs = [Run {

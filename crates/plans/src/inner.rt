@@ -20,7 +20,7 @@ use decimals::COMMA;
 use decimals::LINE_END;
 
 // Copies bytes to the front of others.
-pub fn copy(out: &mut [u8], from: &[u8])
+fn copy(out: &mut [u8], from: &[u8])
     requires { ⌜ length (now from) ≤ length (now out) ⌝ }
     ensures { λ _. ⌜ now (out .exit) ≡ sets (now (out .entry)) 0 (now (from .entry)) ⌝ }
 {
@@ -32,7 +32,7 @@ pub fn copy(out: &mut [u8], from: &[u8])
 }
 
 // Writes a comma and a number in four digits, the digits from place at on.
-pub fn write_field(out: &mut [u8], at: usize, x: u32)
+fn write_field(out: &mut [u8], at: usize, x: u32)
     requires { ⌜ (1 ≤ at) × (at + width ≤ length (now out)) ⌝ }
     ensures { λ _. ⌜ now (out .exit) ≡ sets (now (out .entry)) (at - 1) (comma ∷ digits width x) ⌝ }
 {
@@ -41,7 +41,7 @@ pub fn write_field(out: &mut [u8], at: usize, x: u32)
 }
 
 // Writes the ends, each after a comma, at their places of a line.
-pub fn write_ends(ends: &[u32], out: &mut [u8])
+fn write_ends(ends: &[u32], out: &mut [u8])
     requires { ⌜ bytesFor (length (now ends)) ≤ length (now out) ⌝ }
     ensures { λ _. ⌜ now (out .exit) ≡ sets (now (out .entry)) (placeOfEnd 0 - 1) (fields (now (ends .entry))) ⌝ }
 {

@@ -5,7 +5,7 @@ ghost use Rattle.answers.specs.Outcome.{countedView};
 ghost use Rattle.plans.specs.Line.{startsWith, line?};
 ghost use Rattle.plans.specs.Calls.{plausible, writeOutcome, writeTable, WriteMeaning, readOutcome, readTable, ReadMeaning, planView};
 
-pub mod inner;
+mod inner;
 
 use answers::Counted;
 use answers::Refusal;

@@ -1,4 +1,4 @@
-// For the library's own crates: the caller shows what each function requires.
+// For this crate's calls: the caller shows what each function requires.
 ghost use mathlib.Core.Path.{_≡_};
 ghost use mathlib.Core.List.{_++_};
 ghost use Prim.Native.Nat.{ℕ, _≤_, _<_, _+_, _-_, _*_, _%_};

@@ -6,7 +6,7 @@ ghost use Rattle.answers.specs.Outcome.{countedView, limit};
 ghost use Rattle.repetitions.specs.BestSplit.{bestOutcome, bestEndsTable, bestWork, BestMeaning};
 ghost use Rattle.repetitions.specs.Judges.{splitOutcome, SplitMeaning, pathOutcome, pathTable, PathMeaning, pathJudgedOutcome, PathJudgedMeaning};
 
-pub mod inner;
+mod inner;
 
 use answers::Counted;
 use answers::Refusal;

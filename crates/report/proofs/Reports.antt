@@ -24,7 +24,8 @@ use Rattle.factors.proofs.Optimal.{Answers}
 use Rattle.repetitions.specs.Block.{Block}
 use Rattle.repetitions.specs.BestSplit.{lastCell}
 use Rattle.repetitions.proofs.BestClaims.{word-answers}
-use Rattle.report.specs.Text.{programLimit, recordLimit, fewestName, mostName, refusedText, splitLines, splitText, text, reportOutcome, reportTable}
+use Rattle.finder.specs.Find.{recordLimit}
+use Rattle.report.specs.Text.{programLimit, fewestName, mostName, refusedText, splitLines, splitText, text, reportOutcome, reportTable}
 use Rattle.report.specs.Records.{longestText, printedOutcome, printedTable}
 use Rattle.report.specs.Meaning.{SplitPrinted, none-printed, best-printed, Printed, refused-alone, all-lines, ReportMeaning, too-many-runs, too-few, reported}
 use Rattle.report.proofs.Splits.{endsOf, text-is, text-long}

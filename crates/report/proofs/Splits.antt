@@ -20,7 +20,8 @@ use Rattle.repetitions.specs.Block.{Block, block?}
 use Rattle.repetitions.specs.BestSplit.{sizeOutcome, sizeEnds, lastCell, bestOutcome, bestEndsTable}
 use Rattle.repetitions.proofs.Blocks.{half}
 use Rattle.repetitions.proofs.BestClaims.{word-answers, promised-settled}
-use Rattle.report.specs.Text.{programLimit, recordLimit, passesName, fewestName, mostName, noneText, line, runLines, blockLines, splitLines, splitText, text}
+use Rattle.finder.specs.Find.{recordLimit}
+use Rattle.report.specs.Text.{programLimit, passesName, fewestName, mostName, noneText, line, runLines, blockLines, splitLines, splitText, text}
 use Rattle.report.specs.Records.{longestText}
 use Rattle.report.proofs.Stores.{line-long}
 use Rattle.report.proofs.Lines.{run-lines-long, block-lines-long}

@@ -8,7 +8,8 @@ use Rattle.periods.specs.Period.{anyPeriod, turns}
 use Rattle.runs.specs.Run.{Row, Lists}
 use Rattle.factors.specs.Factorization.{Factorization, Choice, smallest, largest, size, Best}
 use Rattle.repetitions.specs.Block.{Block}
-use Rattle.report.specs.Text.{programLimit, recordLimit, passesName, fewestName, mostName, noneText, refusedText, line, runLines, blockLines}
+use Rattle.finder.specs.Find.{recordLimit}
+use Rattle.report.specs.Text.{programLimit, passesName, fewestName, mostName, noneText, refusedText, line, runLines, blockLines}
 
 -- "fewest with its size and then its blocks, and most in the same way"; "With no split it prints fewest,none and most,none."
 pub data SplitPrinted (w : List ℕ) (c : Choice) (name s : List ℕ) : Type 0 where

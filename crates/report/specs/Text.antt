@@ -15,14 +15,11 @@ use Rattle.decimals.specs.Decimal.{comma, lineEnd, plain}
 use Rattle.repetitions.specs.Block.{block?}
 use Rattle.repetitions.specs.BestSplit.{lastCell}
 use Rattle.repetitions.specs.Judges.{runNumber}
+use Rattle.finder.specs.Find.{recordLimit}
 
 -- "The program holds 1,024 passes"
 abbrev pub programLimit : ℕ
 programLimit = 1024
-
--- and so many run records
-abbrev pub recordLimit : ℕ
-recordLimit = 1024
 
 -- p a s s e s
 abbrev pub passesName : List ℕ

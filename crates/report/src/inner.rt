@@ -1,4 +1,4 @@
-// For the library's own crates: the caller shows what each function requires. Every writer stores
+// For this crate's calls: the caller shows what each function requires. Every writer stores
 // from place at on, as far as there are bytes, and gives the place after what it wrote; so a first
 // pass over no bytes counts, and a second writes.
 ghost use mathlib.Core.Path.{_≡_};
@@ -13,7 +13,8 @@ ghost use Rattle.runs.specs.Inner.{records};
 ghost use Rattle.factors.specs.Factorization.{Factorization};
 ghost use Rattle.decimals.specs.Decimal.{comma, plain};
 ghost use Rattle.repetitions.specs.Block.{Block};
-ghost use Rattle.report.specs.Text.{programLimit, recordLimit, refusedText, line, runLines, blockLine, blockLines, splitText, text};
+ghost use Rattle.finder.specs.Find.{recordLimit};
+ghost use Rattle.report.specs.Text.{programLimit, refusedText, line, runLines, blockLine, blockLines, splitText, text};
 ghost use Rattle.report.specs.Records.{heldRows, printedOutcome, printedTable};
 use crate::PROGRAM_LIMIT;
 use answers::Counted;

@@ -5,7 +5,7 @@ ghost use Rattle.answers.specs.Outcome.{countedView};
 ghost use Rattle.report.specs.Text.{reportOutcome, reportTable};
 ghost use Rattle.report.specs.Meaning.{ReportMeaning};
 
-pub mod inner;
+mod inner;
 
 use answers::Counted;
 use answers::Refusal;

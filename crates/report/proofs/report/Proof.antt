@@ -7,7 +7,7 @@ use lib.ListN.{length, replicate, length-replicate}
 use Rattle.runs.specs.Table.{stride, runsOf}
 use Rattle.runs.specs.Inner.{records}
 use Rattle.runs.proofs.Records.{length-records}
-use Rattle.report.specs.Text.{recordLimit}
+use Rattle.finder.specs.Find.{recordLimit}
 use Rattle.report.proofs.Reports.{runs-refused, runs-counted, promised-long, promised-many, promised-printed, report-answered}
 use Rattle.report.proofs.report.Statement.{statement}
 use Rattle.report.proofs.report.Tie as tie

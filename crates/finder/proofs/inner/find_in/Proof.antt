@@ -51,7 +51,7 @@ use denote.Triple.Clauses.{ensured, lasts}
 use borrow.Table.Owned.{ShrSlice as Lent-slice}
 use borrow.Table.Copies.{cStruct, halved}
 use borrow.Rule.Slice.Prefix.{shs-prefix-same}
-use Rattle.finder.specs.Find.{findRun, findIn}
+use Rattle.finder.specs.Find.{recordLimit, findRun, findIn}
 use Rattle.finder.specs.declared.Run.{Run}
 use Rattle.finder.proofs.Run as T
 use Rattle.finder.proofs.Run.Laws as T′
@@ -66,7 +66,7 @@ use Rattle.finder.proofs.inner.find_in.Code as code
 
 -- how many records the array has
 abbrev N : ℕ
-N = 1024
+N = recordLimit
 
 abbrev Row : RattleType
 Row = Array T.the-row N

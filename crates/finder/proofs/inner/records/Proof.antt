@@ -8,7 +8,7 @@ use native.Mathlib.Numerals.{add-one}
 use mathlib.Core.List.{List, [], _∷_, _++_}
 use lib.ListN.{length, take, set, length-set}
 use lib.Seq.{take-suc-set}
-use Rattle.finder.specs.Find.{recordsOf, recordAt}
+use Rattle.finder.specs.Find.{recordLimit, recordsOf, recordAt}
 use Rattle.finder.specs.declared.Run.{Run}
 use Rattle.finder.proofs.inner.records.Statement.{statement}
 use Rattle.finder.proofs.inner.records.Tie as tie
@@ -18,7 +18,7 @@ next-take : (t : List ℕ) (runs : List Run) (i : ℕ) → i < length runs → t
 next-take t runs i lt e = subst (λ (j : ℕ). take j (set runs i (recordAt t i)) ≡ recordsOf t j) (sym (add-one i)) (take-suc-set runs i (recordAt t i) lt ∙ ap (λ (ys : List Run). ys ++ (recordAt t i ∷ [])) e)
 
 abbrev Inv-loop : tie.InvT-loop
-Inv-loop table count runs₀ i₀ runs i = (i ≤ count) × ((length runs ≡ 1024) × (take i runs ≡ recordsOf table i))
+Inv-loop table count runs₀ i₀ runs i = (i ≤ count) × ((length runs ≡ recordLimit) × (take i runs ≡ recordsOf table i))
 
 abbrev μ-loop : tie.MeasureT-loop
 μ-loop table count runs₀ i₀ runs i = count - i
