@@ -1,6 +1,7 @@
 -- Laws of the Boolean tests that definitions are made of. By cases on the tests. Assumes nothing.
 use mathlib.Core.Path.{_≡_, refl}
-use mathlib.Core.Bool.{Bool, true, false, _&&_}
+use mathlib.Core.Logic.{_⊎_, inl, inr}
+use mathlib.Core.Bool.{Bool, true, false, _&&_, _||_}
 use lib.Dec.{T}
 
 pub and-intro : (x y : Bool) → T x → T y → T (x && y)
@@ -18,6 +19,22 @@ and-right false y p = absurd p
 pub and-true : (b : Bool) → (b && true) ≡ b
 and-true true = refl
 and-true false = refl
+
+pub or-cases : (x y : Bool) → T (x || y) → T x ⊎ T y
+or-cases true y t = inl tt
+or-cases false y t = inr t
+
+pub or-left : (x y : Bool) → T x → T (x || y)
+or-left true y t = tt
+or-left false y t = absurd t
+
+pub or-right : (x y : Bool) → T y → T (x || y)
+or-right true y t = tt
+or-right false y t = t
+
+pub or-true : (b : Bool) → (b || true) ≡ true
+or-true true = refl
+or-true false = refl
 
 pub T-true : (b : Bool) → T b → b ≡ true
 T-true true h = refl

@@ -1,9 +1,9 @@
 -- Nothing of an answer is lost at the interface: the result, the index and the values of a call determine its outcome. Assumes nothing.
 use mathlib.Core.Path.{_≡_, refl, sym, ap, ap₂, _∙_}
-use mathlib.Core.List.{List, [], _∷_}
-use Prim.Native.Nat.{ℕ, suc, _≤_, _<_}
+use Prim.Native.Nat.{ℕ, _≤_, _<_}
 use native.Mathlib.Omega.{arith}
-use lib.ListN.{length, getD}
+use lib.ListN.{length}
+use lib.Seq.{ext-getD}
 use Rattle.answers.specs.declared.Counted.{Counted}
 use Rattle.answers.specs.declared.Counted.the-variants.{Count, Refused}
 use Rattle.answers.specs.Outcome.{Outcome, accepted, refused, countedView}
@@ -23,18 +23,11 @@ abbrev pub HasValues : ℕ → Outcome → Type 0
 HasValues k (accepted v) = length v ≡ k
 HasValues k (refused n i) = 1 ≤ n
 
--- lists of one length with the same places are the same
-same-places : (u v : List ℕ) → length u ≡ length v → ((i : ℕ) → i < length u → getD u i 0 ≡ getD v i 0) → u ≡ v
-same-places [] [] e h = refl
-same-places [] (y ∷ v) e h = absurd (omega (arith, e))
-same-places (x ∷ u) [] e h = absurd (omega (arith, e))
-same-places (x ∷ u) (y ∷ v) e h = ap₂ _∷_ (h 0 (omega arith)) (same-places u v (omega (arith, e)) (λ i l. h (suc i) (omega arith)))
-
 -- what the exported functions give determines the outcome of a call with k values
 pub handed-over-determines :
     (k : ℕ) (x y : Outcome) → HasValues k x → HasValues k y → resultOf x ≡ resultOf y → indexOf x ≡ indexOf y
     → ((i : ℕ) → i < k → valueOf i x ≡ valueOf i y) → x ≡ y
-handed-over-determines k (accepted u) (accepted v) a b r i h = ap accepted (same-places u v (a ∙ sym b) (λ j l. h j (omega (arith, a))))
+handed-over-determines k (accepted u) (accepted v) a b r i h = ap accepted (ext-getD 0 u v (a ∙ sym b) (λ j l. h j (omega (arith, a))))
 handed-over-determines k (accepted u) (refused n j) a b r i h = absurd (omega (arith, r, b))
 handed-over-determines k (refused n j) (accepted v) a b r i h = absurd (omega (arith, r, a))
 handed-over-determines k (refused n j) (refused m l) a b r i h = ap₂ refused r i

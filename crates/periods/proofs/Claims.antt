@@ -10,9 +10,9 @@ use lib.Dec.{T, eqb, leb, ltb, eqb→eq, eqb-refl, leb→le, le→leb, ltb→lt,
 use lib.ListN.{length, getD, take, length-take, length-append, List·getD-append}
 use lib.Seq.{getD-at}
 use Rattle.answers.proofs.Tests.{and-intro, and-left, and-right}
-use Rattle.periods.specs.Period.{Period, SmallestPeriod, Repetition, seek, agrees, smallestPeriod, repetition?, prefixPeriods}
+use Rattle.periods.specs.Period.{part, Period, SmallestPeriod, Repetition, seek, agrees, smallestPeriod, repetition?, prefixPeriods}
 use Rattle.periods.proofs.Search.{Sought, seek-sought, all-sound, all-complete}
-use Rattle.periods.proofs.InPlace.{SmallestIn, symbol, placed-prefix, smallest-in, smallest-out, period-piece}
+use Rattle.periods.proofs.InPlace.{SmallestIn, symbol, placed-part, placed-prefix, smallest-in, smallest-out, part-smallest-in, part-smallest-out, period-piece}
 
 -- no pair of symbols p apart differs, exactly where p is a period or too long for a pair
 pub agrees-sound : (s : List ℕ) (p : ℕ) → T (agrees s p) → (i : ℕ) → i + p < length s → getD s i 0 ≡ getD s (i + p) 0
@@ -78,6 +78,14 @@ module _ (allowed : ℕ → Bool) (k : ℕ) (s : List ℕ) where
       (and-intro (leb (k * smallestPeriod s) (length s)) (allowed (smallestPeriod s))
       (le→leb (k * smallestPeriod s) (length s) (subst (λ (u : ℕ). k * u ≤ length s) e (R .long)))
       (subst (λ (u : ℕ). T (allowed u)) e (R .permitted)))
+
+-- the smallest period of a part, in its place
+module _ (w : List ℕ) (a b : ℕ) (l : b ≤ length w) where
+  pub part-smallest : a < b → SmallestIn (symbol w) a b (smallestPeriod (part w a b))
+  part-smallest h = part-smallest-in w a b (smallestPeriod (part w a b)) l (smallest-period-is (part w a b) (omega (arith, placed-part w a b l .long)))
+
+  pub part-smallest-unique : (p : ℕ) → SmallestIn (symbol w) a b p → smallestPeriod (part w a b) ≡ p
+  part-smallest-unique p S = smallest-period-unique (part w a b) p (part-smallest-out w a b p l S)
 
 -- the smallest period of a prefix, in its place
 pub prefix-smallest : (s : List ℕ) (m : ℕ) → 1 ≤ m → m ≤ length s → SmallestIn (symbol s) 0 m (smallestPeriod (take m s))

@@ -1,6 +1,7 @@
 -- Periods of a part in its place: between the boundaries a and b of a sequence of symbols `f : ℕ → ℕ`, counted from 0. A word handed on by itself has
--- the periods that it has in its place (`period-in`, `period-out`), so that laws about slices and prefixes are laws about places. Assumes nothing.
-use mathlib.Core.Path.{_≡_, refl, sym, ap, _∙_}
+-- the periods that it has in its place (`period-in`, `period-out`), so that laws about slices and prefixes are laws about places; so has a part of a word
+-- (`part-smallest-in`, `part-smallest-out`). Assumes nothing.
+use mathlib.Core.Path.{_≡_, refl, sym, ap, _∙_, subst}
 use mathlib.Core.List.{List}
 use Prim.Native.Nat.{ℕ, suc, _+_, _-_, _≤_, _<_}
 use native.Mathlib.Omega.{arith}
@@ -61,6 +62,17 @@ placed-part w a b h = record {
   long = length-take (b - a) (drop a w) ∙ omega (arith, length-drop a w);
   symbols = λ i l. getD-take (b - a) (drop a w) i 0 l ∙ getD-drop a w i 0;
 }
+
+pub part-smallest-in : (w : List ℕ) (a b p : ℕ) → b ≤ length w → SmallestPeriod (part w a b) p → SmallestIn (symbol w) a b p
+part-smallest-in w a b p h S =
+    let P = placed-part w a b h in
+    subst (λ (e : ℕ). SmallestIn (symbol w) a e p) (omega (arith, P .long, S .period .positive, S .period .fits))
+    (smallest-in (symbol w) a (b - a) (part w a b) P p S)
+
+pub part-smallest-out : (w : List ℕ) (a b p : ℕ) → b ≤ length w → SmallestIn (symbol w) a b p → SmallestPeriod (part w a b) p
+part-smallest-out w a b p h S =
+    smallest-out (symbol w) a (b - a) (part w a b) (placed-part w a b h) p
+    (subst (λ (e : ℕ). SmallestIn (symbol w) a e p) (omega (arith, S .period .positive, S .period .fits)) S)
 
 -- a prefix
 pub placed-prefix : (w : List ℕ) (m : ℕ) → m ≤ length w → Placed (symbol w) 0 m (take m w)

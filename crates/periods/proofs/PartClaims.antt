@@ -10,7 +10,7 @@ use native.Mathlib.Nat.{div-add-mod', mod-lt}
 use borrow.Author.Tests.{lt-ltb, le-ltb}
 use lib.Dec.{T, leb, ltb}
 use lib.ListN.{length}
-use Rattle.answers.proofs.Tests.{and-true}
+use Rattle.answers.proofs.Tests.{and-true, or-true}
 use Rattle.answers.specs.Outcome.{Outcome, accepted, refused, limit}
 use Rattle.answers.proofs.Claims.{refusal-injective}
 use Rattle.periods.specs.declared.PartAnswer.{PartAnswer}
@@ -66,10 +66,6 @@ part-length w first last h = placed-part w (first - 1) last (h .2) .long
 outside-tests : (w : List ℕ) (first last : ℕ) → (Within w first last → ⊥) → (ltb first 1 || (ltb (length w) last || ltb last first)) ≡ true
 outside-tests w first last h = go (decLt first 1) (decLt (length w) last) (decLt last first)
   where
-    or-true : (b : Bool) → (b || true) ≡ true
-    or-true true = refl
-    or-true false = refl
-
     go : Dec (first < 1) → Dec (length w < last) → Dec (last < first) → (ltb first 1 || (ltb (length w) last || ltb last first)) ≡ true
     go (yes x) y z = rw (lt-ltb first 1 x) refl
     go (no x) (yes y) z = rw (lt-ltb (length w) last y) (or-true (ltb first 1))

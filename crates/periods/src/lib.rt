@@ -1,8 +1,5 @@
 // Parts of a word, their periods, and the part call.
 ghost use mathlib.Core.Path.{_≡_};
-ghost use mathlib.Core.List.{_++_};
-ghost use Prim.Native.Nat.{_≤_, _<_, _^_};
-ghost use lib.ListN.{length, drop};
 ghost use Rattle.periods.specs.Period.{smallestPeriod};
 ghost use Rattle.periods.specs.Part.{partView, partOutcome, PartMeaning};
 

@@ -3,7 +3,7 @@
 -- word of its own. Assumes nothing.
 use mathlib.Core.Path.{_≡_, refl, sym, ap, _∙_, subst}
 use mathlib.Core.Logic.{_⊎_, inl, inr}
-use mathlib.Core.Bool.{Bool, true, false, cond, _||_}
+use mathlib.Core.Bool.{Bool, cond}
 use mathlib.Core.List.{List, _++_, append-assoc}
 use Prim.Native.Nat.{ℕ, suc, _+_, _-_, _*_, _≤_, _<_}
 use native.Mathlib.Omega.{arith}
@@ -12,6 +12,7 @@ use borrow.Author.Tests.{lt-ltb, le-ltb, ne-eqb}
 use lib.Dec.{ltb, eqb}
 use lib.ListN.{length, getD, take, drop, replicate, length-append, length-take, length-drop, length-replicate, getD-replicate, replicate-append-replicate, List·getD-append}
 use lib.Seq.{take-at, drop-at, getD-append-add, drop-append-add}
+use Rattle.answers.proofs.Tests.{or-true}
 use Rattle.answers.specs.Outcome.{Outcome, refused, limit}
 use Rattle.periods.specs.Period.{anyPeriod, turns}
 use Rattle.factors.specs.Factorization.{Factorization, Choice, choiceOf, Cell, unreachable, reached, cell, bestEnds}
@@ -170,10 +171,6 @@ module _ (w : List ℕ) (choice : ℕ) (e t : List ℕ) where
   tested-bad : {A : Type 0} (a b d r : A) → length w ≤ limit → (choice < 1) ⊎ (2 < choice) → tested w choice (length t) a b d r ≡ b
   tested-bad a b d r h (inl x) = rw (le-ltb limit (length w) h, lt-ltb choice 1 x) refl
   tested-bad a b d r h (inr x) = rw (le-ltb limit (length w) h, lt-ltb 2 choice x) (ap (λ (u : Bool). cond u b (cond (ltb (length t) (rows * (length w + 1))) d r)) (or-true (ltb choice 1)))
-    where
-      or-true : (u : Bool) → (u || true) ≡ true
-      or-true true = refl
-      or-true false = refl
 
   tested-short : {A : Type 0} (a b d r : A) → length w ≤ limit → 1 ≤ choice → choice ≤ 2 → length t < rows * (length w + 1) → tested w choice (length t) a b d r ≡ d
   tested-short a b d r h x y z = simp (le-ltb limit (length w) h, le-ltb choice 1 x, le-ltb 2 choice y, lt-ltb (length t) (rows * (length w + 1)) z)

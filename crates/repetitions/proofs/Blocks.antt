@@ -12,25 +12,12 @@ use lib.Dec.{T, leb, leb→le, le→leb}
 use lib.ListN.{length, take, length-take}
 use lib.Seq.{getD-take, ext-getD}
 use Rattle.answers.proofs.Tests.{and-intro, and-left, and-right}
-use Rattle.periods.specs.Period.{part, SmallestPeriod, Repetition, repetition?}
-use Rattle.periods.proofs.InPlace.{SmallestIn, symbol, Placed, placed-part, smallest-in, smallest-out}
+use Rattle.periods.specs.Period.{part, Repetition, repetition?}
+use Rattle.periods.proofs.InPlace.{SmallestIn, symbol, Placed, placed-part, part-smallest-in, part-smallest-out}
 use Rattle.periods.proofs.Claims.{repetition-sound, repetition-complete}
 use Rattle.factors.specs.Factorization.{Chain, Factorization}
 use Rattle.factors.proofs.Chains.{chain-map, chain-within}
 use Rattle.repetitions.specs.Block.{Block, block?}
-
--- ---- the smallest period of a part, in its place
-
-pub part-smallest-in : (w : List ℕ) (i j p : ℕ) → j ≤ length w → SmallestPeriod (part w i j) p → SmallestIn (symbol w) i j p
-part-smallest-in w i j p h S =
-    let P = placed-part w i j h in
-    subst (λ (e : ℕ). SmallestIn (symbol w) i e p) (omega (arith, P .long, S .period .positive, S .period .fits))
-    (smallest-in (symbol w) i (j - i) (part w i j) P p S)
-
-pub part-smallest-out : (w : List ℕ) (i j p : ℕ) → j ≤ length w → SmallestIn (symbol w) i j p → SmallestPeriod (part w i j) p
-part-smallest-out w i j p h S =
-    smallest-out (symbol w) i (j - i) (part w i j) (placed-part w i j h) p
-    (subst (λ (e : ℕ). SmallestIn (symbol w) i e p) (omega (arith, S .period .positive, S .period .fits)) S)
 
 -- a block in its place, between the boundaries i and j
 pub record BlockIn (allowed : ℕ → Bool) (k : ℕ) (w : List ℕ) (i j : ℕ) : Type 0 where

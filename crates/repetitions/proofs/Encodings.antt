@@ -1,7 +1,6 @@
 -- The paths of the repetition graph and their encodings, for any turn number k from 2 up. A path between two drops is a segment: a run that encloses the piece, k
 -- periods or longer. So a path's encoding is a list of segments, each list of segments is the encoding of a path, and of one only. A segment is a block whose smallest
--- period is the run's, and a block has one segment, since it lies in one run only with its period. The laws that need it
--- take as a hypothesis that the table lists exactly the runs (`Lists`). Assumes nothing.
+-- period is the run's, and a block has one segment, since it lies in one run only with its period. Assumes nothing.
 use mathlib.Core.Path.{_≡_, refl, sym, ap, ap₂, _∙_, subst, subst₂}
 use mathlib.Core.Bool.{Bool}
 use mathlib.Core.List.{List, [], _∷_}
@@ -10,16 +9,17 @@ use native.Mathlib.Omega.{arith}
 use native.Mathlib.Nat.{mul-le-mul-right}
 use lib.ListN.{length}
 use Rattle.periods.specs.Period.{part, smallestPeriod}
-use Rattle.periods.proofs.InPlace.{SmallestIn, symbol, smallest-unique}
+use Rattle.periods.proofs.InPlace.{SmallestIn, symbol, part-smallest-out, smallest-unique}
 use Rattle.periods.proofs.Claims.{smallest-period-unique}
 use Rattle.runs.specs.Run.{Row, Entry, White, Lists}
 use Rattle.runs.specs.Table.{runsOf}
 use Rattle.runs.proofs.InPlace.{RunIn, piece-smallest, run-unique, run-exists, run-in, run-out}
+use Rattle.runs.proofs.Listed.{runs-listed}
 use Rattle.runs.proofs.Entries.{entry-one-row, entry-one-number}
 use Rattle.factors.specs.Factorization.{Chain}
 use Rattle.repetitions.specs.Block.{Block}
 use Rattle.repetitions.specs.Graph.{Node, black, white, Diagonal, Walk, Path, drops, encoding, runsOfPairs, endsOfPairs, Segment, Segments}
-use Rattle.repetitions.proofs.Blocks.{BlockIn, block-in, block-out, part-smallest-out}
+use Rattle.repetitions.proofs.Blocks.{BlockIn, block-in, block-out}
 
 -- ---- nodes and lists
 
@@ -219,143 +219,146 @@ module _ (allowed : ℕ → Bool) (k : ℕ) (w : List ℕ) where
         (subst (λ (m : ℕ). Walk allowed k w (black m) xs (black t)) (omega arith) v),
   )
 
-  module _ (L : Lists w (runsOf w)) where
-    -- the end of a segment is in the word
-    pub segment-within : (r i j : ℕ) → Segment allowed k w r i j → j ≤ length w
-    segment-within r i j S = omega (arith, S .ends, L .sound r (S .run) (S .numbered) .ends)
+  -- the table lists exactly the runs
+  L : Lists w (runsOf w)
+  L = runs-listed w
 
-    abbrev WalkFor : ℕ → ℕ → List ℕ → Type 0
-    WalkFor t j ns = (xs : List Node) × Walk allowed k w (black j) xs (black t) × (encoding (black j) xs ≡ ns)
+  -- the end of a segment is in the word
+  pub segment-within : (r i j : ℕ) → Segment allowed k w r i j → j ≤ length w
+  segment-within r i j S = omega (arith, S .ends, L .sound r (S .run) (S .numbered) .ends)
 
-    -- the nodes of a segment, and on
-    segment-walk : (t r i j : ℕ) (ns : List ℕ) → Segment allowed k w r i j → WalkFor t j ns → WalkFor t i (r ∷ j ∷ ns)
-    segment-walk t r i j ns S (xs, v, q) = (
-      white r x ∷ flats r x d xs,
-      (
-        (omega (arith, S .long, segment-within r i j S), N x (omega arith) (omega (arith, S .long)), record { run = S .run; numbered = S .numbered; span = refl }),
-        walk-flats t r x d xs (λ y a b. N y a (omega (arith, S .long))) (omega (arith, S .long, segment-within r i j S))
-            (subst (λ (m : ℕ). Walk allowed k w (black m) xs (black t)) (omega (arith, S .long)) v),
-      ),
-      encoding-flats r x d xs ∙ ap (λ (m : ℕ). r ∷ m ∷ encoding (black m) xs) (omega (arith, S .long)) ∙ ap (λ (ms : List ℕ). r ∷ j ∷ ms) q,
-    )
+  abbrev WalkFor : ℕ → ℕ → List ℕ → Type 0
+  WalkFor t j ns = (xs : List Node) × Walk allowed k w (black j) xs (black t) × (encoding (black j) xs ≡ ns)
+
+  -- the nodes of a segment, and on
+  segment-walk : (t r i j : ℕ) (ns : List ℕ) → Segment allowed k w r i j → WalkFor t j ns → WalkFor t i (r ∷ j ∷ ns)
+  segment-walk t r i j ns S (xs, v, q) = (
+    white r x ∷ flats r x d xs,
+    (
+      (omega (arith, S .long, segment-within r i j S), N x (omega arith) (omega (arith, S .long)), record { run = S .run; numbered = S .numbered; span = refl }),
+      walk-flats t r x d xs (λ y a b. N y a (omega (arith, S .long))) (omega (arith, S .long, segment-within r i j S))
+          (subst (λ (m : ℕ). Walk allowed k w (black m) xs (black t)) (omega (arith, S .long)) v),
+    ),
+    encoding-flats r x d xs ∙ ap (λ (m : ℕ). r ∷ m ∷ encoding (black m) xs) (omega (arith, S .long)) ∙ ap (λ (ms : List ℕ). r ∷ j ∷ ms) q,
+  )
+    where
+      x : ℕ
+      x = i + k * S .run .period
+
+      d : ℕ
+      d = j - x
+
+      N : (y : ℕ) → x ≤ y → y ≤ j → White allowed k (runsOf w) r y
+      N y a b =
+          record { run = S .run; numbered = S .numbered; from = omega (arith, S .starts); to = omega (arith, S .ends); permitted = S .permitted }
+
+  segments-walk : (t : ℕ) (ns : List ℕ) (j : ℕ) → Segments allowed k w j ns t → WalkFor t j ns
+  segments-walk t [] j s = ([], ap black s, refl)
+  segments-walk t (r ∷ []) j s = absurd s
+  segments-walk t (r ∷ e ∷ ns) j s = segment-walk t r j e ns (s .0) (segments-walk t ns e (s .1))
+
+  -- CLAIM: numbers that lead from boundary 0 to boundary t are the encoding of a path of length t
+  pub encodes : (t : ℕ) (ns : List ℕ) → Segments allowed k w 0 ns t → (xs : List Node) × Path allowed k w t xs × (encoding (black 0) xs ≡ ns)
+  encodes t ns s = segments-walk t ns 0 s
+
+  -- ---- a segment is a block with its run
+
+  module _ (two : 2 ≤ k) where
+    run-of : (r : ℕ) (v : Row) → Entry (runsOf w) r v → RunIn (symbol w) (length w) (v .first - 1) (v .last) (v .period)
+    run-of r v e = run-in w (v .first) (v .last) (v .period) (L .sound r v e)
+
+    -- the run's period is the smallest period of the piece, in its place
+    pub segment-smallest : (r i j : ℕ) (S : Segment allowed k w r i j) → SmallestIn (symbol w) i j (S .run .period)
+    segment-smallest r i j S =
+        let v = S .run in
+        piece-smallest (symbol w) (length w) (v .first - 1) (v .last) i j (v .period) (run-of r v (S .numbered)) (omega (arith, S .starts)) (S .ends)
+        (omega (arith, S .long, mul-le-mul-right (v .period) two))
+
+    -- CLAIM: and as a word of its own
+    pub segment-period : (r i j : ℕ) (S : Segment allowed k w r i j) → S .run .period ≡ smallestPeriod (part w i j)
+    segment-period r i j S =
+        sym (smallest-period-unique (part w i j) (S .run .period)
+        (part-smallest-out w i j (S .run .period) (segment-within r i j S) (segment-smallest r i j S)))
+
+    -- CLAIM: a segment is a block
+    pub segment-block : (r i j : ℕ) → Segment allowed k w r i j → Block allowed k w i j
+    segment-block r i j S = block-out allowed k w i j (record {
+      period = S .run .period;
+      within = segment-within r i j S;
+      smallest = segment-smallest r i j S;
+      long = S .long;
+      permitted = S .permitted;
+    })
+
+    -- CLAIM: a block is a segment of a run
+    pub block-segment : (i j : ℕ) → Block allowed k w i j → (r : ℕ) × Segment allowed k w r i j
+    block-segment i j K = go (block-in allowed k w i j K)
       where
-        x : ℕ
-        x = i + k * S .run .period
+        go : BlockIn allowed k w i j → (r : ℕ) × Segment allowed k w r i j
+        go M = enclosed (run-exists (symbol w) (length w) i j (M .period) (M .smallest) (omega (arith, mul-le-mul-right (M .period) two)) (M .within))
+          where
+            enclosed : (A : ℕ) × (B : ℕ) × RunIn (symbol w) (length w) A B (M .period) × (A ≤ i) × (j ≤ B) → (r : ℕ) × Segment allowed k w r i j
+            enclosed (A, B, R, a, b) =
+                let c = L .complete (suc A) B (M .period) (run-out w A B (M .period) R) in (
+                  c .0,
+                  record {
+                    run = record { first = suc A; last = B; period = M .period };
+                    numbered = c .1;
+                    starts = omega arith;
+                    ends = b;
+                    long = M .long;
+                    permitted = M .permitted;
+                  },
+                )
 
-        d : ℕ
-        d = j - x
+    -- CLAIM: of one run only
+    pub segment-one-number : (r s i j : ℕ) → Segment allowed k w r i j → Segment allowed k w s i j → r ≡ s
+    segment-one-number r s i j S Z =
+        entry-one-number (runsOf w) (L .sorted) r s (Z .run) (subst (λ (v : Row). Entry (runsOf w) r v) one (S .numbered)) (Z .numbered)
+      where
+        p : S .run .period ≡ Z .run .period
+        p = smallest-unique (symbol w) i j (S .run .period) (Z .run .period) (segment-smallest r i j S) (segment-smallest s i j Z)
 
-        N : (y : ℕ) → x ≤ y → y ≤ j → White allowed k (runsOf w) r y
-        N y a b =
-            record { run = S .run; numbered = S .numbered; from = omega (arith, S .starts); to = omega (arith, S .ends); permitted = S .permitted }
+        there : RunIn (symbol w) (length w) (Z .run .first - 1) (Z .run .last) (S .run .period)
+        there = subst (λ (u : ℕ). RunIn (symbol w) (length w) (Z .run .first - 1) (Z .run .last) u) (sym p) (run-of s (Z .run) (Z .numbered))
 
-    segments-walk : (t : ℕ) (ns : List ℕ) (j : ℕ) → Segments allowed k w j ns t → WalkFor t j ns
-    segments-walk t [] j s = ([], ap black s, refl)
-    segments-walk t (r ∷ []) j s = absurd s
-    segments-walk t (r ∷ e ∷ ns) j s = segment-walk t r j e ns (s .0) (segments-walk t ns e (s .1))
+        ends : (S .run .first - 1 ≡ Z .run .first - 1) × (S .run .last ≡ Z .run .last)
+        ends =
+            run-unique (symbol w) (length w) (S .run .first - 1) (S .run .last) (Z .run .first - 1) (Z .run .last) i j (S .run .period)
+            (run-of r (S .run) (S .numbered)) there (omega (arith, S .starts)) (S .ends) (omega (arith, Z .starts)) (Z .ends)
+            (segment-smallest r i j S .period .fits)
 
-    -- CLAIM: numbers that lead from boundary 0 to boundary t are the encoding of a path of length t
-    pub encodes : (t : ℕ) (ns : List ℕ) → Segments allowed k w 0 ns t → (xs : List Node) × Path allowed k w t xs × (encoding (black 0) xs ≡ ns)
-    encodes t ns s = segments-walk t ns 0 s
+        first : S .run .first ≡ Z .run .first
+        first = omega (arith, ends .0, L .sound r (S .run) (S .numbered) .starts, L .sound s (Z .run) (Z .numbered) .starts)
 
-    -- ---- a segment is a block with its run
+        one : S .run ≡ Z .run
+        one = row-same (S .run) (Z .run) first (ends .1) p
 
-    module _ (two : 2 ≤ k) where
-      run-of : (r : ℕ) (v : Row) → Entry (runsOf w) r v → RunIn (symbol w) (length w) (v .first - 1) (v .last) (v .period)
-      run-of r v e = run-in w (v .first) (v .last) (v .period) (L .sound r v e)
+    -- ---- lists of segments and chains of blocks
 
-      -- the run's period is the smallest period of the piece, in its place
-      pub segment-smallest : (r i j : ℕ) (S : Segment allowed k w r i j) → SmallestIn (symbol w) i j (S .run .period)
-      segment-smallest r i j S =
-          let v = S .run in
-          piece-smallest (symbol w) (length w) (v .first - 1) (v .last) i j (v .period) (run-of r v (S .numbered)) (omega (arith, S .starts)) (S .ends)
-          (omega (arith, S .long, mul-le-mul-right (v .period) two))
+    pub segments-chain : (t : ℕ) (ns : List ℕ) (i : ℕ) → Segments allowed k w i ns t → Chain (Block allowed k w) i (endsOfPairs ns) t
+    segments-chain t [] i s = s
+    segments-chain t (r ∷ []) i s = absurd s
+    segments-chain t (r ∷ e ∷ ns) i s = (segment-block r i e (s .0), segments-chain t ns e (s .1))
 
-      -- CLAIM: and as a word of its own
-      pub segment-period : (r i j : ℕ) (S : Segment allowed k w r i j) → S .run .period ≡ smallestPeriod (part w i j)
-      segment-period r i j S =
-          sym (smallest-period-unique (part w i j) (S .run .period)
-          (part-smallest-out w i j (S .run .period) (segment-within r i j S) (segment-smallest r i j S)))
+    pub chain-segments : (t : ℕ) (es : List ℕ) (i : ℕ) → Chain (Block allowed k w) i es t → (ns : List ℕ) × Segments allowed k w i ns t × (endsOfPairs ns ≡ es)
+    chain-segments t [] i c = ([], c, refl)
+    chain-segments t (e ∷ es) i c = go (block-segment i e (c .0)) (chain-segments t es e (c .1))
+      where
+        go : (r : ℕ) × Segment allowed k w r i e → (ns : List ℕ) × Segments allowed k w e ns t × (endsOfPairs ns ≡ es)
+            → (ns : List ℕ) × Segments allowed k w i ns t × (endsOfPairs ns ≡ e ∷ es)
+        go (r, S) (ns, s, q) = (r ∷ e ∷ ns, (S, s), ap (λ (fs : List ℕ). e ∷ fs) q)
 
-      -- CLAIM: a segment is a block
-      pub segment-block : (r i j : ℕ) → Segment allowed k w r i j → Block allowed k w i j
-      segment-block r i j S = block-out allowed k w i j (record {
-        period = S .run .period;
-        within = segment-within r i j S;
-        smallest = segment-smallest r i j S;
-        long = S .long;
-        permitted = S .permitted;
-      })
-
-      -- CLAIM: a block is a segment of a run
-      pub block-segment : (i j : ℕ) → Block allowed k w i j → (r : ℕ) × Segment allowed k w r i j
-      block-segment i j K = go (block-in allowed k w i j K)
-        where
-          go : BlockIn allowed k w i j → (r : ℕ) × Segment allowed k w r i j
-          go M = enclosed (run-exists (symbol w) (length w) i j (M .period) (M .smallest) (omega (arith, mul-le-mul-right (M .period) two)) (M .within))
-            where
-              enclosed : (A : ℕ) × (B : ℕ) × RunIn (symbol w) (length w) A B (M .period) × (A ≤ i) × (j ≤ B) → (r : ℕ) × Segment allowed k w r i j
-              enclosed (A, B, R, a, b) =
-                  let c = L .complete (suc A) B (M .period) (run-out w A B (M .period) R) in (
-                    c .0,
-                    record {
-                      run = record { first = suc A; last = B; period = M .period };
-                      numbered = c .1;
-                      starts = omega arith;
-                      ends = b;
-                      long = M .long;
-                      permitted = M .permitted;
-                    },
-                  )
-
-      -- CLAIM: of one run only
-      pub segment-one-number : (r s i j : ℕ) → Segment allowed k w r i j → Segment allowed k w s i j → r ≡ s
-      segment-one-number r s i j S Z =
-          entry-one-number (runsOf w) (L .sorted) r s (Z .run) (subst (λ (v : Row). Entry (runsOf w) r v) one (S .numbered)) (Z .numbered)
-        where
-          p : S .run .period ≡ Z .run .period
-          p = smallest-unique (symbol w) i j (S .run .period) (Z .run .period) (segment-smallest r i j S) (segment-smallest s i j Z)
-
-          there : RunIn (symbol w) (length w) (Z .run .first - 1) (Z .run .last) (S .run .period)
-          there = subst (λ (u : ℕ). RunIn (symbol w) (length w) (Z .run .first - 1) (Z .run .last) u) (sym p) (run-of s (Z .run) (Z .numbered))
-
-          ends : (S .run .first - 1 ≡ Z .run .first - 1) × (S .run .last ≡ Z .run .last)
-          ends =
-              run-unique (symbol w) (length w) (S .run .first - 1) (S .run .last) (Z .run .first - 1) (Z .run .last) i j (S .run .period)
-              (run-of r (S .run) (S .numbered)) there (omega (arith, S .starts)) (S .ends) (omega (arith, Z .starts)) (Z .ends)
-              (segment-smallest r i j S .period .fits)
-
-          first : S .run .first ≡ Z .run .first
-          first = omega (arith, ends .0, L .sound r (S .run) (S .numbered) .starts, L .sound s (Z .run) (Z .numbered) .starts)
-
-          one : S .run ≡ Z .run
-          one = row-same (S .run) (Z .run) first (ends .1) p
-
-      -- ---- lists of segments and chains of blocks
-
-      pub segments-chain : (t : ℕ) (ns : List ℕ) (i : ℕ) → Segments allowed k w i ns t → Chain (Block allowed k w) i (endsOfPairs ns) t
-      segments-chain t [] i s = s
-      segments-chain t (r ∷ []) i s = absurd s
-      segments-chain t (r ∷ e ∷ ns) i s = (segment-block r i e (s .0), segments-chain t ns e (s .1))
-
-      pub chain-segments : (t : ℕ) (es : List ℕ) (i : ℕ) → Chain (Block allowed k w) i es t → (ns : List ℕ) × Segments allowed k w i ns t × (endsOfPairs ns ≡ es)
-      chain-segments t [] i c = ([], c, refl)
-      chain-segments t (e ∷ es) i c = go (block-segment i e (c .0)) (chain-segments t es e (c .1))
-        where
-          go : (r : ℕ) × Segment allowed k w r i e → (ns : List ℕ) × Segments allowed k w e ns t × (endsOfPairs ns ≡ es)
-              → (ns : List ℕ) × Segments allowed k w i ns t × (endsOfPairs ns ≡ e ∷ es)
-          go (r, S) (ns, s, q) = (r ∷ e ∷ ns, (S, s), ap (λ (fs : List ℕ). e ∷ fs) q)
-
-      -- the ends determine the run numbers
-      pub segments-same : (t : ℕ) (ns ms : List ℕ) (i : ℕ) → Segments allowed k w i ns t → Segments allowed k w i ms t → endsOfPairs ns ≡ endsOfPairs ms → ns ≡ ms
-      segments-same t [] [] i s z q = refl
-      segments-same t [] (m ∷ []) i s z q = absurd z
-      segments-same t [] (m ∷ f ∷ ms) i s z q = absurd (nil-cons f (endsOfPairs ms) (f ∷ endsOfPairs ms) (sym q) refl)
-      segments-same t (r ∷ []) ms i s z q = absurd s
-      segments-same t (r ∷ e ∷ ns) [] i s z q = absurd (nil-cons e (endsOfPairs ns) (e ∷ endsOfPairs ns) q refl)
-      segments-same t (r ∷ e ∷ ns) (m ∷ []) i s z q = absurd z
-      segments-same t (r ∷ e ∷ ns) (m ∷ f ∷ ms) i s z q =
-          let a : e ≡ f = head-same e f (endsOfPairs ns) (endsOfPairs ms) q in
-          let b : ns ≡ ms = segments-same t ns ms f (subst (λ (x : ℕ). Segments allowed k w x ns t) a (s .1)) (z .1) (tail-same e f (endsOfPairs ns) (endsOfPairs ms) q) in
-          let c : r ≡ m = segment-one-number r m i f (subst (λ (x : ℕ). Segment allowed k w r i x) a (s .0)) (z .0) in
-          cc (a, b, c)
+    -- the ends determine the run numbers
+    pub segments-same : (t : ℕ) (ns ms : List ℕ) (i : ℕ) → Segments allowed k w i ns t → Segments allowed k w i ms t → endsOfPairs ns ≡ endsOfPairs ms → ns ≡ ms
+    segments-same t [] [] i s z q = refl
+    segments-same t [] (m ∷ []) i s z q = absurd z
+    segments-same t [] (m ∷ f ∷ ms) i s z q = absurd (nil-cons f (endsOfPairs ms) (f ∷ endsOfPairs ms) (sym q) refl)
+    segments-same t (r ∷ []) ms i s z q = absurd s
+    segments-same t (r ∷ e ∷ ns) [] i s z q = absurd (nil-cons e (endsOfPairs ns) (e ∷ endsOfPairs ns) q refl)
+    segments-same t (r ∷ e ∷ ns) (m ∷ []) i s z q = absurd z
+    segments-same t (r ∷ e ∷ ns) (m ∷ f ∷ ms) i s z q =
+        let a : e ≡ f = head-same e f (endsOfPairs ns) (endsOfPairs ms) q in
+        let b : ns ≡ ms = segments-same t ns ms f (subst (λ (x : ℕ). Segments allowed k w x ns t) a (s .1)) (z .1) (tail-same e f (endsOfPairs ns) (endsOfPairs ms) q) in
+        let c : r ≡ m = segment-one-number r m i f (subst (λ (x : ℕ). Segment allowed k w r i x) a (s .0)) (z .0) in
+        cc (a, b, c)

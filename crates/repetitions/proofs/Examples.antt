@@ -1,19 +1,23 @@
 -- Document 01's examples of the definitions that the contracts of this crate cite, computed: the starred sequences as one table with one claim, the two longest
--- sequences of letters, and the judged proposals. Assumes nothing.
+-- sequences of letters, two paths node by node, the tie rule, and the judged proposals. Assumes nothing.
 use mathlib.Core.Path.{_≡_, refl, ap, ap₂}
+use mathlib.Core.Logic.{inl, inr}
 use mathlib.Core.Bool.{Bool, true, false, _&&_}
 use mathlib.Core.List.{List, [], _∷_, _++_}
-use Prim.Native.Nat.{ℕ, _+_, _-_, _*_}
+use Prim.Native.Nat.{ℕ, _+_, _-_, _*_, _≤_}
+use native.Mathlib.Omega.{arith}
 use lib.Dec.{T, eqb, eqb→eq}
 use lib.ListN.{length, replicate}
 use Rattle.answers.proofs.Tests.{and-left, and-right}
 use Rattle.answers.specs.Outcome.{Outcome, accepted, refused}
-use Rattle.periods.specs.Period.{smallestPeriod, repetition?}
+use Rattle.periods.specs.Period.{smallestPeriod, repetition?, anyPeriod, turns}
+use Rattle.runs.specs.Run.{Row, Entry, White}
 use Rattle.runs.specs.Table.{run?, runBetween, rowsAt, rowsBefore, runsOf}
 use Rattle.runs.specs.Inner.{entryOf}
-use Rattle.factors.specs.Factorization.{cell, bestEnds}
+use Rattle.factors.specs.Factorization.{LongerFromEnd, cell, bestEnds}
 use Rattle.factors.specs.Table.{none, sizes}
 use Rattle.factors.specs.Verdict.{verdict}
+use Rattle.repetitions.specs.Graph.{Node, black, white, Path, total, drops, encoding}
 use Rattle.repetitions.specs.BestSplit.{bestOutcome, bestEndsTable, bestWork}
 use Rattle.repetitions.specs.Judges.{splitOutcome, firstNumber, runNumber, runNumbers, pathOutcome, pathTable, pathJudgedOutcome}
 
@@ -310,6 +314,92 @@ path-a-place-short = refl
 pub path-of-3-8 : pathOutcome word-aabaabaa (3 ∷ 8 ∷ []) 0 ≡ refused 4 1
 unfolding pathOutcome splitOutcome verdict repetition? smallestPeriod
 path-of-3-8 = refl
+
+-- ---- two paths, node by node
+
+abbrev run-1 : Row
+run-1 = record { first = 1; last = 2; period = 1 }
+
+abbrev run-2 : Row
+run-2 = record { first = 1; last = 8; period = 3 }
+
+numbered-1 : Entry (runsOf word-aabaabaa) 1 run-1
+unfolding runsOf rowsBefore rowsAt runBetween run? repetition? smallestPeriod
+numbered-1 = refl
+
+numbered-2 : Entry (runsOf word-aabaabaa) 2 run-2
+unfolding runsOf rowsBefore rowsAt runBetween run? repetition? smallestPeriod
+numbered-2 = refl
+
+-- "from first+2×unit−1 to last": run 1 has a white node at 2, run 2 at 6, 7 and 8
+white-1 : White anyPeriod turns (runsOf word-aabaabaa) 1 2
+white-1 = record { run = run-1; numbered = numbered-1; from = omega arith; to = omega arith; permitted = tt }
+
+white-2 : (x : ℕ) → 6 ≤ x → x ≤ 8 → White anyPeriod turns (runsOf word-aabaabaa) 2 x
+white-2 x a b = record { run = run-2; numbered = numbered-2; from = omega arith; to = b; permitted = tt }
+
+-- 2,8: the diagonal of run 1 to position 2, the drop to joint 2, the diagonal of run 2 to position 8, the drop to joint 8
+abbrev nodes-of-2-8 : List Node
+nodes-of-2-8 = white 1 2 ∷ black 2 ∷ white 2 8 ∷ black 8 ∷ []
+
+pub walk-of-2-8 : Path anyPeriod turns word-aabaabaa 8 nodes-of-2-8
+walk-of-2-8 = (
+  (omega arith, white-1, record { run = run-1; numbered = numbered-1; span = refl }),
+  (
+    (white-1, omega arith, refl),
+    (
+      (omega arith, white-2 8 (omega arith) (omega arith), record { run = run-2; numbered = numbered-2; span = refl }),
+      (
+        (white-2 8 (omega arith) (omega arith), omega arith, refl),
+        refl,
+      ),
+    ),
+  ),
+)
+
+pub drops-of-2-8 : drops (black 0) nodes-of-2-8 ≡ 2 ∷ 8 ∷ []
+drops-of-2-8 = refl
+
+pub encoding-of-2-8 : encoding (black 0) nodes-of-2-8 ≡ 1 ∷ 2 ∷ 2 ∷ 8 ∷ []
+encoding-of-2-8 = refl
+
+pub weight-of-2-8 : total (black 0) nodes-of-2-8 ≡ 2
+weight-of-2-8 = refl
+
+-- 8: the diagonal of run 2 to position 6, two flat edges, the drop to joint 8
+abbrev nodes-of-8 : List Node
+nodes-of-8 = white 2 6 ∷ white 2 7 ∷ white 2 8 ∷ black 8 ∷ []
+
+pub walk-of-8 : Path anyPeriod turns word-aabaabaa 8 nodes-of-8
+walk-of-8 = (
+  (omega arith, white-2 6 (omega arith) (omega arith), record { run = run-2; numbered = numbered-2; span = refl }),
+  (
+    (white-2 6 (omega arith) (omega arith), white-2 7 (omega arith) (omega arith), (refl, refl)),
+    (
+      (white-2 7 (omega arith) (omega arith), white-2 8 (omega arith) (omega arith), (refl, refl)),
+      (
+        (white-2 8 (omega arith) (omega arith), omega arith, refl),
+        refl,
+      ),
+    ),
+  ),
+)
+
+pub encoding-of-8 : encoding (black 0) nodes-of-8 ≡ 2 ∷ 8 ∷ []
+encoding-of-8 = refl
+
+pub weight-of-8 : total (black 0) nodes-of-8 ≡ 1
+weight-of-8 = refl
+
+-- ---- the tie rule
+
+-- "the last block is longest": of the two splits of aabaabaa into two blocks 2,8 wins, with last blocks of 6 and of 2 passes
+pub two-eight-wins : LongerFromEnd (2 ∷ 8 ∷ []) (6 ∷ 8 ∷ [])
+two-eight-wins = inl (omega arith)
+
+-- "then the one before it": with equal last blocks the one before decides
+pub one-before-decides : LongerFromEnd (2 ∷ 8 ∷ 10 ∷ []) (4 ∷ 8 ∷ 10 ∷ [])
+one-before-decides = inr (refl, inl (omega arith))
 
 -- ---- judged paths
 

@@ -12,10 +12,11 @@ use lib.ListN.{length, getD, set, take, drop, length-append, length-take, length
 use lib.Seq.{take-all, drop-cons, paste-suc}
 use Rattle.periods.specs.Period.{part, smallestPeriod, anyPeriod, turns}
 use Rattle.periods.proofs.InPlace.{symbol}
+use Rattle.periods.proofs.Claims.{part-smallest}
 use Rattle.runs.specs.Table.{rowsBefore}
 use Rattle.runs.specs.Inner.{countsOf, numberOf}
 use Rattle.runs.proofs.InPlace.{RunIn, run-in}
-use Rattle.runs.proofs.Listed.{runs-listed, part-smallest}
+use Rattle.runs.proofs.Listed.{runs-listed}
 use Rattle.runs.proofs.Rows.{length-counts}
 use Rattle.runs.proofs.LookUps.{number-of-complete, counts-at}
 use Rattle.factors.specs.Factorization.{Chain, Factorization}
@@ -63,7 +64,7 @@ module _ (w : List ℕ) (i j p : ℕ) (K : Block anyPeriod turns w i j) (e : p �
       S = run-number-segment w i j K
 
       unit : S .run .period ≡ p
-      unit = segment-period anyPeriod turns w (runs-listed w) (omega arith) (runNumber w i j) i j S ∙ sym e
+      unit = segment-period anyPeriod turns w (omega arith) (runNumber w i j) i j S ∙ sym e
 
       R : RunIn (symbol w) (length w) (S .run .first - 1) (S .run .last) p
       R =

@@ -17,7 +17,6 @@ use Rattle.periods.proofs.InPlace.{symbol}
 use Rattle.runs.specs.Run.{Row, Entry}
 use Rattle.runs.specs.Table.{runsOf}
 use Rattle.runs.proofs.InPlace.{RunIn}
-use Rattle.runs.proofs.Listed.{runs-listed}
 use Rattle.factors.specs.Factorization.{Chain, Factorization}
 use Rattle.factors.specs.Verdict.{VerdictMeaning, bad-end, no-block, unfinished, fine}
 use Rattle.repetitions.specs.Block.{Block}
@@ -80,13 +79,13 @@ module _ (w : List ℕ) (i j : ℕ) where
       let p = smallestPeriod (part w i j) in
       let s = P .row in
       let rest = and-right (leb (s .first) (i + 1)) (leb j (s .last) && eqb (s .period) p) (P .passed) in
-      let S = block-segment anyPeriod turns w (runs-listed w) two i j K .1 in
+      let S = block-segment anyPeriod turns w two i j K .1 in
       record {
         run = s;
         numbered = P .entry;
         starts = leb→le (s .first) (i + 1) (and-left (leb (s .first) (i + 1)) (leb j (s .last) && eqb (s .period) p) (P .passed));
         ends = leb→le j (s .last) (and-left (leb j (s .last)) (eqb (s .period) p) rest);
-        long = omega (arith, eqb→eq (s .period) p (and-right (leb j (s .last)) (eqb (s .period) p) rest), S .long, segment-period anyPeriod turns w (runs-listed w) two _ i j S);
+        long = omega (arith, eqb→eq (s .period) p (and-right (leb j (s .last)) (eqb (s .period) p) rest), S .long, segment-period anyPeriod turns w two _ i j S);
         permitted = tt;
       }
 
@@ -99,7 +98,7 @@ module _ (w : List ℕ) (i j : ℕ) where
         passed =
             and-intro (leb (S .run .first) (i + 1)) (leb j (S .run .last) && eqb (S .run .period) p) (le→leb (S .run .first) (i + 1) (S .starts))
             (and-intro (leb j (S .run .last)) (eqb (S .run .period) p) (le→leb j (S .run .last) (S .ends))
-            (subst (λ (x : ℕ). T (eqb (S .run .period) x)) (segment-period anyPeriod turns w (runs-listed w) two r i j S) (eqb-refl (S .run .period))));
+            (subst (λ (x : ℕ). T (eqb (S .run .period) x)) (segment-period anyPeriod turns w two r i j S) (eqb-refl (S .run .period))));
       }
 
   -- CLAIM: the number is that of the one run that encloses the block and has its unit
@@ -109,12 +108,12 @@ module _ (w : List ℕ) (i j : ℕ) where
     where
       go : (m : ℕ) → firstNumber (encloses? i j (smallestPeriod (part w i j))) (runsOf w) ≡ m → Segment anyPeriod turns w m i j
       go zero e =
-          let s = block-segment anyPeriod turns w (runs-listed w) two i j K in
+          let s = block-segment anyPeriod turns w two i j K in
           absurd (first-none (encloses? i j (smallestPeriod (part w i j))) (runsOf w) e (s .0) (segment-encloses (s .0) (s .1)))
       go (suc m) e = enclosing-segment K (suc m) (first-sound (encloses? i j (smallestPeriod (part w i j))) (runsOf w) m e)
 
   pub run-number-unique : Block anyPeriod turns w i j → (r : ℕ) → Segment anyPeriod turns w r i j → runNumber w i j ≡ r
-  run-number-unique K r S = segment-one-number anyPeriod turns w (runs-listed w) two (runNumber w i j) r i j (run-number-segment K) S
+  run-number-unique K r S = segment-one-number anyPeriod turns w two (runNumber w i j) r i j (run-number-segment K) S
 
 -- the run numbers and the ends, one after the other
 pairs : List ℕ → List ℕ → List ℕ
@@ -136,7 +135,7 @@ pub numbers-path : (w ends : List ℕ) → Factorization (Block anyPeriod turns 
     → (xs : List Node) × Path anyPeriod turns w (length w) xs × GoTogether xs ends × (runsOfPairs (encoding (black 0) xs) ≡ runNumbers w 0 ends)
 numbers-path w ends h =
     let s = numbers-segments w ends 0 h in
-    let p = encodes anyPeriod turns w (runs-listed w) (length w) (pairs (runNumbers w 0 ends) ends) (s .0) in
+    let p = encodes anyPeriod turns w (length w) (pairs (runNumbers w 0 ends) ends) (s .0) in
     (p .0, p .1, sym (encoding-ends (black 0) (p .0)) ∙ ap endsOfPairs (p .2) ∙ s .2, ap runsOfPairs (p .2) ∙ s .1)
 
 pub length-run-numbers : (w : List ℕ) (i : ℕ) (ends : List ℕ) → length (runNumbers w i ends) ≡ length ends

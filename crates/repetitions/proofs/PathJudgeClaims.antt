@@ -17,7 +17,6 @@ use Rattle.periods.specs.Period.{anyPeriod, turns}
 use Rattle.runs.specs.Run.{Row, Entry}
 use Rattle.runs.specs.Table.{runsOf}
 use Rattle.runs.specs.Inner.{entryOf}
-use Rattle.runs.proofs.Listed.{runs-listed}
 use Rattle.runs.proofs.LookUps.{entry-of}
 use Rattle.factors.specs.Verdict.{verdict, verdictFrom}
 use Rattle.factors.proofs.VerdictClaims.{verdict-means, verdict-low, verdict-high, verdict-block, verdict-no-block, verdict-finished, verdict-unfinished}
@@ -164,8 +163,8 @@ module _ (w : List ℕ) (t : ℕ → ℕ → ℕ → Bool) where
   segments-accepted [] k i A s = verdict-finished t (length w) k i s ∙ ap (λ (x : ℕ). accepted (x ∷ [])) (omega arith)
   segments-accepted (r ∷ []) k i A s = absurd s
   segments-accepted (r ∷ e ∷ ns) k i A s =
-      verdict-block t (length w) k i e (endsOfPairs ns) (block-up anyPeriod turns w i e (segment-block anyPeriod turns w (runs-listed w) (omega arith) r i e (s .0)))
-      (segment-within anyPeriod turns w (runs-listed w) r i e (s .0)) (T-true (t (suc k) i e) (agrees-first k r e ns A i e .1 (s .0)))
+      verdict-block t (length w) k i e (endsOfPairs ns) (block-up anyPeriod turns w i e (segment-block anyPeriod turns w (omega arith) r i e (s .0)))
+      (segment-within anyPeriod turns w r i e (s .0)) (T-true (t (suc k) i e) (agrees-first k r e ns A i e .1 (s .0)))
       ∙ segments-accepted ns (suc k) e (agrees-rest k r e ns A) (s .1) ∙ ap (λ (x : ℕ). accepted (x ∷ [])) (omega arith)
 
 module _ (w ns : List ℕ) where
@@ -183,7 +182,7 @@ module _ (w ns : List ℕ) where
       ↔ ((xs : List Node) × Path anyPeriod turns w (length w) xs × (encoding (black 0) xs ≡ ns)))
   unfolding verdict
   path-accepted q = (
-    (λ h. encodes anyPeriod turns w (runs-listed w) (length w) ns (accepted-segments w (segment? anyPeriod turns w ns) ns 0 0 (length ns / 2 ∷ []) q agrees h)),
+    (λ h. encodes anyPeriod turns w (length w) ns (accepted-segments w (segment? anyPeriod turns w ns) ns 0 0 (length ns / 2 ∷ []) q agrees h)),
     (λ p.
         segments-accepted w (segment? anyPeriod turns w ns) ns 0 0 agrees
         (subst (λ (ms : List ℕ). Segments anyPeriod turns w 0 ms (length w)) (p .2) (encoded anyPeriod turns w (length w) (p .0) (p .1)))

@@ -1,14 +1,13 @@
 -- The paths of length t in the repetition graph of a word and the factorizations of its prefix of length t go together one to one, and the weight of a path is the
 -- size of its factorization, for any turn number k from 2 up. A path and its encoding go together one to one, a block has one segment, and the prefix has its factorizations
--- in its place. That the table lists exactly the runs (`Lists`) is a hypothesis. There is no path beyond the end of the word. Assumes nothing.
+-- in its place. There is no path beyond the end of the word. Assumes nothing.
 use mathlib.Core.Path.{_≡_, refl, sym, ap, _∙_, subst}
 use mathlib.Core.Bool.{Bool}
 use mathlib.Core.List.{List, [], _∷_}
 use Prim.Native.Nat.{ℕ, _+_, _≤_, _<_}
 use native.Mathlib.Omega.{arith}
 use lib.ListN.{length, take}
-use Rattle.runs.specs.Run.{Lists}
-use Rattle.runs.specs.Table.{runsOf}
+use Rattle.periods.specs.Period.{anyPeriod, turns}
 use Rattle.factors.specs.Factorization.{Factorization}
 use Rattle.repetitions.specs.Block.{Block}
 use Rattle.repetitions.specs.Graph.{Node, black, white, Exists, Walk, Path, total, drops, encoding, GoTogether, endsOfPairs, Segments}
@@ -49,26 +48,26 @@ module _ (allowed : ℕ → Bool) (k : ℕ) (w : List ℕ) where
 
   -- ---- paths and factorizations in their place
 
-  module _ (L : Lists w (runsOf w)) (two : 2 ≤ k) (t : ℕ) where
+  module _ (two : 2 ≤ k) (t : ℕ) where
     path-chain : (xs : List Node) → Path allowed k w t xs → Factorization (Block allowed k w) t (drops (black 0) xs)
     path-chain xs v =
         subst (λ (es : List ℕ). Factorization (Block allowed k w) t es) (encoding-ends (black 0) xs)
-        (segments-chain allowed k w L two t (encoding (black 0) xs) 0 (encoded allowed k w t xs v))
+        (segments-chain allowed k w two t (encoding (black 0) xs) 0 (encoded allowed k w t xs v))
 
     chain-path : (es : List ℕ) → Factorization (Block allowed k w) t es → (xs : List Node) × Path allowed k w t xs × GoTogether xs es
-    chain-path es c = segments (chain-segments allowed k w L two t es 0 c)
+    chain-path es c = segments (chain-segments allowed k w two t es 0 c)
       where
         walked : (ns : List ℕ) → endsOfPairs ns ≡ es → (xs : List Node) × Path allowed k w t xs × (encoding (black 0) xs ≡ ns)
             → (xs : List Node) × Path allowed k w t xs × GoTogether xs es
         walked ns q (xs, v, e) = (xs, v, sym (encoding-ends (black 0) xs) ∙ ap endsOfPairs e ∙ q)
 
         segments : (ns : List ℕ) × Segments allowed k w 0 ns t × (endsOfPairs ns ≡ es) → (xs : List Node) × Path allowed k w t xs × GoTogether xs es
-        segments (ns, s, q) = walked ns q (encodes allowed k w L t ns s)
+        segments (ns, s, q) = walked ns q (encodes allowed k w t ns s)
 
     same-path : (xs ys : List Node) → Path allowed k w t xs → Path allowed k w t ys → drops (black 0) xs ≡ drops (black 0) ys → xs ≡ ys
     same-path xs ys v z q =
         encoding-one-path allowed k w t xs ys v z
-        (segments-same allowed k w L two t (encoding (black 0) xs) (encoding (black 0) ys) 0 (encoded allowed k w t xs v) (encoded allowed k w t ys z)
+        (segments-same allowed k w two t (encoding (black 0) xs) (encoding (black 0) ys) 0 (encoded allowed k w t xs v) (encoded allowed k w t ys z)
         (encoding-ends (black 0) xs ∙ q ∙ sym (encoding-ends (black 0) ys)))
 
     pub one-to-one : t ≤ length w → OneToOne allowed k w t
@@ -79,3 +78,7 @@ module _ (allowed : ℕ → Bool) (k : ℕ) (w : List ℕ) where
       one-path = same-path;
       weighs = λ xs v. walk-weighs t xs .0 0 v;
     }
+
+-- CLAIM: the instance for document 01's graph, in which a block has two turns and any period
+pub word-one-to-one : (w : List ℕ) (t : ℕ) → t ≤ length w → OneToOne anyPeriod turns w t
+word-one-to-one w t h = one-to-one anyPeriod turns w (omega arith) t h

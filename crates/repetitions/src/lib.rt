@@ -1,8 +1,7 @@
 // Repetition factorizations: best split, the judges, path of a split.
 ghost use mathlib.Core.Path.{_≡_};
-ghost use Prim.Native.Nat.{_≤_, _<_, _+_, _*_};
 ghost use lib.ListN.{length};
-ghost use Rattle.answers.specs.Outcome.{countedView, limit};
+ghost use Rattle.answers.specs.Outcome.{countedView};
 ghost use Rattle.repetitions.specs.BestSplit.{bestOutcome, bestEndsTable, bestWork, BestMeaning};
 ghost use Rattle.repetitions.specs.Judges.{splitOutcome, SplitMeaning, pathOutcome, pathTable, PathMeaning, pathJudgedOutcome, PathJudgedMeaning};
 

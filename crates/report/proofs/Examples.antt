@@ -1,6 +1,6 @@
 -- Document 01's printout, byte for byte, and the texts of the shortest words and of a word that is too long, computed from the definitions. Assumes nothing.
 use mathlib.Core.Path.{_≡_, refl}
-use mathlib.Core.List.{List, [], _∷_}
+use mathlib.Core.List.{List, [], _∷_, _++_}
 use Prim.Native.Nat.{ℕ}
 use lib.ListN.{replicate}
 use Rattle.answers.specs.Outcome.{accepted, refused}
@@ -9,7 +9,7 @@ use Rattle.runs.specs.Table.{run?, runBetween, rowsAt, rowsBefore, runsOf}
 use Rattle.factors.specs.Factorization.{cell, bestEnds}
 use Rattle.decimals.specs.Decimal.{digits, digitCount}
 use Rattle.repetitions.specs.Judges.{firstNumber, runNumber}
-use Rattle.report.specs.Text.{refusedText, fieldsOf, line, runLines, blockLine, blockLines, splitText, text, reportOutcome}
+use Rattle.report.specs.Text.{refusedText, fieldsOf, line, runLines, blockLine, blockLines, splitText, text, reportOutcome, reportTable}
 
 abbrev aabaabaa : List ℕ
 aabaabaa = 97 ∷ 97 ∷ 98 ∷ 97 ∷ 97 ∷ 98 ∷ 97 ∷ 97 ∷ []
@@ -61,3 +61,13 @@ report-of-empty = refl
 pub report-a-place-short : reportOutcome [] 24 ≡ refused 7 0
 unfolding reportOutcome text line fieldsOf runLines blockLine blockLines splitText digits digitCount runsOf rowsBefore rowsAt runBetween run? repetition? smallestPeriod cell bestEnds runNumber firstNumber
 report-a-place-short = refl
+
+-- after a refusal the bytes stay
+pub report-refused-keeps : reportTable [] (7 ∷ 7 ∷ []) ≡ 7 ∷ 7 ∷ []
+unfolding reportTable text line fieldsOf runLines blockLine blockLines splitText digits digitCount runsOf rowsBefore rowsAt runBetween run? repetition? smallestPeriod cell bestEnds runNumber firstNumber
+report-refused-keeps = refl
+
+-- only the first bytes change
+pub report-into : reportTable (replicate 1025 97) (replicate 12 7) ≡ refusedText ++ (7 ∷ 7 ∷ [])
+unfolding reportTable text
+report-into = refl

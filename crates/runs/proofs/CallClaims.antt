@@ -1,7 +1,7 @@
 -- What the runs call and the nodes call answer and write means what document 01 says, for every word, position and table: `runs-mean`, `nodes-mean`. One law
 -- for each outcome gives both from the tests that lead to it. By the order of the tests in the definitions. Assumes nothing.
 use mathlib.Core.Path.{_≡_, refl, sym, ap, _∙_}
-use mathlib.Core.Bool.{Bool, true, false, _||_}
+use mathlib.Core.Bool.{true, false, _||_}
 use mathlib.Core.List.{List, [], _∷_, _++_}
 use Prim.Native.Nat.{ℕ, _*_, _≤_, _<_}
 use native.Mathlib.Omega.{arith}
@@ -11,6 +11,7 @@ use lib.Dec.{ltb}
 use lib.ListN.{length, drop}
 use lib.Seq.{sets}
 use Rattle.answers.proofs.Stores.{sets-front}
+use Rattle.answers.proofs.Tests.{or-true}
 use Rattle.answers.specs.Outcome.{Outcome, accepted, refused, limit}
 use Rattle.periods.specs.Period.{anyPeriod, turns}
 use Rattle.runs.specs.Table.{runsOf, stride, flat, nodesAt}
@@ -85,10 +86,6 @@ module _ (w : List ℕ) (x : ℕ) where
   outside-tests : ((1 ≤ x) × (x ≤ length w) → ⊥) → (ltb x 1 || ltb (length w) x) ≡ true
   outside-tests h = go (decLt x 1) (decLt (length w) x)
     where
-      or-true : (b : Bool) → (b || true) ≡ true
-      or-true true = refl
-      or-true false = refl
-
       go : Dec (x < 1) → Dec (length w < x) → (ltb x 1 || ltb (length w) x) ≡ true
       go (yes y) z = rw (lt-ltb x 1 y) refl
       go (no y) (yes z) = rw (lt-ltb (length w) x z) (or-true (ltb x 1))

@@ -6,7 +6,7 @@ use lib.ListN.{replicate}
 use Rattle.answers.specs.Outcome.{accepted, refused}
 use Rattle.periods.specs.Period.{smallestPeriod, repetition?, anyPeriod, turns}
 use Rattle.runs.specs.Table.{run?, runBetween, rowsAt, rowsBefore, runsOf, flat, nodesAt}
-use Rattle.runs.specs.Calls.{runsOutcome, runsTable, nodesOutcome}
+use Rattle.runs.specs.Calls.{runsOutcome, runsTable, nodesOutcome, nodesTable}
 
 abbrev aa : List ℕ
 aa = 97 ∷ 97 ∷ []
@@ -69,6 +69,11 @@ pub nodes-enough-places : nodesOutcome aabaabaa 8 2 ≡ accepted (2 ∷ [])
 unfolding nodesOutcome nodesAt runsOf rowsBefore rowsAt runBetween run? repetition? smallestPeriod
 nodes-enough-places = refl
 
+-- what follows the numbers stays
+pub nodes-written : nodesTable aabaabaa 8 (9 ∷ 9 ∷ 9 ∷ []) ≡ 2 ∷ 4 ∷ 9 ∷ []
+unfolding nodesTable nodesAt runsOf rowsBefore rowsAt runBetween run? repetition? smallestPeriod
+nodes-written = refl
+
 pub nodes-a-place-short : nodesOutcome aabaabaa 8 1 ≡ refused 7 0
 unfolding nodesOutcome nodesAt runsOf rowsBefore rowsAt runBetween run? repetition? smallestPeriod
 nodes-a-place-short = refl
@@ -81,6 +86,11 @@ nodes-at-0 = refl
 pub nodes-at-9 : nodesOutcome aabaabaa 9 8 ≡ refused 6 0
 unfolding nodesOutcome
 nodes-at-9 = refl
+
+-- "4,097 passes"
+pub nodes-too-long-first : nodesOutcome (replicate 4097 97) 0 0 ≡ refused 1 0
+unfolding nodesOutcome
+nodes-too-long-first = refl
 
 pub nodes-of-empty : nodesOutcome [] 1 8 ≡ refused 6 0
 unfolding nodesOutcome

@@ -1,7 +1,7 @@
 -- Runs in their place: between the boundaries A and B of a sequence of n symbols `f : ℕ → ℕ`, counted from 0. A piece of a run that is twice its period or
 -- longer has that period as its smallest; a run is determined by a piece of it and its period; every part twice its smallest period or longer lies in a run with
--- that period. One law does the work: a period q of a piece of p + q symbols of a part with period p is a period of the whole part. Assumes nothing.
-use mathlib.Core.Path.{_≡_, refl, sym, ap, _∙_, subst}
+-- that period, and in one only (`one-run`). One law does the work: a period q of a piece of p + q symbols of a part with period p is a period of the whole part. Assumes nothing.
+use mathlib.Core.Path.{_≡_, refl, sym, ap, _∙_}
 use mathlib.Core.Logic.{_⊎_, inl, inr, _≢_}
 use mathlib.Core.List.{List}
 use Prim.Native.Nat.{ℕ, zero, suc, _+_, _-_, _*_, _≤_, _<_}
@@ -9,8 +9,8 @@ use native.Mathlib.Omega.{arith}
 use native.Mathlib.Nat.{le-antisymm}
 use native.Mathlib.Decide.{decLt, ℕ-discrete}
 use lib.ListN.{length}
-use Rattle.periods.specs.Period.{part}
-use Rattle.periods.proofs.InPlace.{PeriodIn, SmallestIn, symbol, Placed, placed-part, period-piece, smallest-in, smallest-out}
+use Rattle.periods.specs.Period.{part, SmallestPeriod}
+use Rattle.periods.proofs.InPlace.{PeriodIn, SmallestIn, symbol, Placed, placed-part, period-piece, part-smallest-in, part-smallest-out}
 use Rattle.runs.specs.Run.{symbolAt, Run}
 
 -- the boundaries A and B are first - 1 and last
@@ -147,8 +147,7 @@ module _ (f : ℕ → ℕ) where
 
 pub run-in : (w : List ℕ) (first last p : ℕ) → Run w first last p → RunIn (symbol w) (length w) (first - 1) last p
 run-in w first last p R = record {
-  smallest = subst (λ (e : ℕ). SmallestIn (symbol w) (first - 1) e p) (omega (arith, P .long, R .smallest .period .positive, R .smallest .period .fits))
-      (smallest-in (symbol w) (first - 1) (last - (first - 1)) (part w (first - 1) last) P p (R .smallest));
+  smallest = part-smallest-in w (first - 1) last p (R .ends) (R .smallest);
   twice = omega (arith, P .long, R .twice, R .smallest .period .positive);
   within = R .ends;
   left = λ i e. left i e (R .left);
@@ -170,8 +169,7 @@ pub run-out : (w : List ℕ) (A B p : ℕ) → RunIn (symbol w) (length w) A B p
 run-out w A B p R = record {
   starts = omega arith;
   ends = R .within;
-  smallest = rw e (smallest-out (symbol w) A (B - A) (part w A B) P p
-      (subst (λ (x : ℕ). SmallestIn (symbol w) A x p) (omega (arith, R .smallest .period .fits)) (R .smallest)));
+  smallest = rw e (part-smallest-out w A B p (R .within) (R .smallest));
   twice = rw e (omega (arith, P .long, R .twice));
   left = left A (R .left);
   right = right (decLt B (length w));
@@ -190,3 +188,32 @@ run-out w A B p R = record {
     right : Dec (B < length w) → (B ≡ length w) ⊎ (symbolAt w (B + 1) ≢ symbolAt w (B - p + 1))
     right (yes l) = inr (λ y. R .right l (ap (symbol w) (omega arith) ∙ y ∙ ap (symbol w) (omega arith)))
     right (no l) = inl (omega (arith, R .within))
+
+-- ---- "There is only one run that encloses a block and has its unit."
+
+-- the run with period p around the part between boundaries i and j
+pub record OneRun (w : List ℕ) (i j p : ℕ) : Type 0 where
+  pub first : ℕ
+  pub last : ℕ
+  pub run : Run w first last p
+  pub starts : first ≤ i + 1
+  pub ends : j ≤ last
+  pub only : (f l : ℕ) → Run w f l p → f ≤ i + 1 → j ≤ l → (f ≡ first) × (l ≡ last)
+
+-- CLAIM: a part twice its unit or longer lies in a run with its unit, and in one only
+pub one-run : (w : List ℕ) (i j p : ℕ) → j ≤ length w → SmallestPeriod (part w i j) p → 2 * p ≤ length (part w i j) → OneRun w i j p
+one-run w i j p h S t = go (run-exists (symbol w) (length w) i j p U twice h)
+  where
+    U : SmallestIn (symbol w) i j p
+    U = part-smallest-in w i j p h S
+
+    twice : i + 2 * p ≤ j
+    twice = omega (arith, placed-part w i j h .long, U .period .positive, U .period .fits)
+
+    go : (A : ℕ) × (B : ℕ) × RunIn (symbol w) (length w) A B p × (A ≤ i) × (j ≤ B) → OneRun w i j p
+    go (A, B, R, a, b) = record { first = suc A; last = B; run = run-out w A B p R; starts = omega arith; ends = b; only = only }
+      where
+        only : (f l : ℕ) → Run w f l p → f ≤ i + 1 → j ≤ l → (f ≡ suc A) × (l ≡ B)
+        only f l Q x y =
+            let e = run-unique (symbol w) (length w) (f - 1) l A B i j p (run-in w f l p Q) R (omega (arith, Q .starts)) y a b (U .period .fits) in
+            (omega (arith, e .0, Q .starts), e .1)

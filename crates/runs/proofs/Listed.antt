@@ -3,17 +3,17 @@
 -- Assumes nothing.
 use mathlib.Core.Path.{_≡_, refl, sym, ap, _∙_, subst}
 use mathlib.Core.Logic.{_⊎_, inl, inr, _≢_}
-use mathlib.Core.Bool.{Bool, true, false, not, cond, _&&_, _||_}
+use mathlib.Core.Bool.{Bool, true, false, not, cond, _&&_}
 use mathlib.Core.List.{List, [], _∷_, _++_}
 use Prim.Native.Nat.{ℕ, zero, suc, _+_, _-_, _≤_, _<_}
 use native.Mathlib.Omega.{arith}
 use native.Mathlib.Decide.{decLt, ℕ-discrete}
 use lib.Dec.{T, eqb, eqb→eq, eqb-refl, T-not, not-T}
 use lib.ListN.{length}
-use Rattle.answers.proofs.Tests.{and-intro, and-left, and-right}
+use Rattle.answers.proofs.Tests.{and-intro, and-left, and-right, or-cases, or-left, or-right}
 use Rattle.periods.specs.Period.{part, smallestPeriod, repetition?, anyPeriod}
-use Rattle.periods.proofs.InPlace.{SmallestIn, symbol, Placed, placed-part, smallest-in, smallest-out, period-piece}
-use Rattle.periods.proofs.Claims.{smallest-period-is, smallest-period-unique, repetition-sound, repetition-complete}
+use Rattle.periods.proofs.InPlace.{symbol, placed-part, period-piece}
+use Rattle.periods.proofs.Claims.{smallest-period-is, smallest-period-unique, repetition-sound, repetition-complete, part-smallest, part-smallest-unique}
 use Rattle.runs.specs.Run.{Row, Run, Entry, Before, Sorted, Lists}
 use Rattle.runs.specs.Table.{left?, right?, run?, runBetween, rowsAt, rowsBefore, runsOf}
 use Rattle.runs.proofs.InPlace.{RunIn, run-in, run-out, run-unique}
@@ -26,18 +26,6 @@ differ x y h = not-T (eqb x y) (λ t. h (eqb→eq x y t))
 
 differs : (x y : ℕ) → T (not (eqb x y)) → x ≢ y
 differs x y t e = T-not (eqb x y) t (subst (λ (z : ℕ). T (eqb x z)) e (eqb-refl x))
-
-or-cases : (x y : Bool) → T (x || y) → T x ⊎ T y
-or-cases true y t = inl tt
-or-cases false y t = inr t
-
-or-left : (x y : Bool) → T x → T (x || y)
-or-left true y t = tt
-or-left false y t = absurd t
-
-or-right : (x y : Bool) → T y → T (x || y)
-or-right true y t = tt
-or-right false y t = t
 
 left-sound : (w : List ℕ) (a p i : ℕ) → T (left? w a p) → suc i ≡ a → symbol w i ≢ symbol w (i + p)
 left-sound w zero p i t e = absurd (omega arith)
@@ -64,21 +52,6 @@ right-complete w b p l h = go (decLt b (length w))
         or-left (eqb b (length w)) (not (eqb (symbol w b) (symbol w (b - p)))) (subst (λ (x : ℕ). T (eqb b x)) (sym e) (eqb-refl b))
 
 module _ (w : List ℕ) (a b : ℕ) (l : b ≤ length w) where
-  -- the smallest period of the part, in its place
-  pub part-smallest : a < b → SmallestIn (symbol w) a b (smallestPeriod (part w a b))
-  part-smallest h =
-      subst (λ (e : ℕ). SmallestIn (symbol w) a e (smallestPeriod (part w a b))) (omega arith)
-      (smallest-in (symbol w) a (b - a) (part w a b) P (smallestPeriod (part w a b)) (smallest-period-is (part w a b) (omega (arith, P .long))))
-    where
-      P : Placed (symbol w) a (b - a) (part w a b)
-      P = placed-part w a b l
-
-  pub part-smallest-unique : (p : ℕ) → SmallestIn (symbol w) a b p → p ≡ smallestPeriod (part w a b)
-  part-smallest-unique p S =
-      sym (smallest-period-unique (part w a b) p
-      (smallest-out (symbol w) a (b - a) (part w a b) (placed-part w a b l) p
-      (subst (λ (e : ℕ). SmallestIn (symbol w) a e p) (omega (arith, S .period .fits)) S)))
-
   pub run-sound : T (run? w a b) → RunIn (symbol w) (length w) a b (smallestPeriod (part w a b))
   unfolding run?
   run-sound t =
@@ -88,7 +61,7 @@ module _ (w : List ℕ) (a b : ℕ) (l : b ≤ length w) where
       let n = placed-part w a b l .long in
       let e : R .period ≡ p = sym (smallest-period-unique (part w a b) (R .period) (R .smallest)) in
       record {
-        smallest = part-smallest (omega (arith, R .smallest .period .positive, R .smallest .period .fits));
+        smallest = part-smallest w a b l (omega (arith, R .smallest .period .positive, R .smallest .period .fits));
         twice = omega (arith, R .long, R .smallest .period .positive);
         within = l;
         left = λ i z. left-sound w a p i (and-left (left? w a p) (right? w b p) u) z;
@@ -115,7 +88,7 @@ module _ (w : List ℕ) (a b : ℕ) (l : b ≤ length w) where
       q = smallestPeriod (part w a b)
 
       e : p ≡ q
-      e = part-smallest-unique p (R .smallest)
+      e = sym (part-smallest-unique w a b l p (R .smallest))
 
       n : length (part w a b) ≡ b - a
       n = placed-part w a b l .long

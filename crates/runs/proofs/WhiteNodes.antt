@@ -16,11 +16,12 @@ use lib.Seq.{sets}
 use Rattle.answers.proofs.Tests.{and-intro, and-left, and-right}
 use Rattle.answers.proofs.Stores.{sets-append}
 use Rattle.periods.specs.Period.{anyPeriod, turns}
+use Rattle.periods.proofs.Claims.{part-smallest}
 use Rattle.runs.specs.Run.{Row, Entry, White}
 use Rattle.runs.specs.Table.{rowsAt, rowsBefore, runsOf, node?, numbersWhere, nodesAt}
 use Rattle.runs.specs.Calls.{Rising, ListsNodes}
 use Rattle.runs.specs.Inner.{records}
-use Rattle.runs.proofs.Listed.{part-smallest, at-sound}
+use Rattle.runs.proofs.Listed.{at-sound}
 use Rattle.runs.proofs.Rows.{before-none, before-more}
 use Rattle.runs.proofs.Records.{recordAt, records-more, length-records}
 

@@ -1,8 +1,8 @@
 // For the library's own crates: the caller shows what each function requires.
 ghost use mathlib.Core.Path.{_≡_};
 ghost use mathlib.Core.List.{_++_, _∷_, []};
-ghost use Prim.Native.Nat.{ℕ, _≤_, _<_, _+_, _-_, _*_, _^_};
-ghost use lib.ListN.{length, getD, set, take, drop};
+ghost use Prim.Native.Nat.{ℕ, _≤_, _<_, _+_, _-_, _*_};
+ghost use lib.ListN.{length, getD, set, drop};
 ghost use lib.Seq.{sets};
 ghost use Rattle.answers.specs.Outcome.{limit};
 ghost use Rattle.periods.specs.Period.{part, smallestPeriod, anyPeriod, turns};

@@ -9,7 +9,7 @@ use borrow.Author.Tests.{le-leb, lt-leb}
 use lib.ListN.{length, getD, drop}
 use Rattle.answers.specs.Outcome.{refused}
 use Rattle.periods.specs.Period.{anyPeriod, turns}
-use Rattle.runs.proofs.Listed.{part-smallest}
+use Rattle.periods.proofs.Claims.{part-smallest}
 use Rattle.factors.specs.Verdict.{verdictFrom}
 use Rattle.factors.proofs.VerdictClaims.{verdict-low, verdict-high, verdict-block, verdict-no-block, verdict-finished, verdict-unfinished}
 use Rattle.repetitions.specs.Block.{block?}

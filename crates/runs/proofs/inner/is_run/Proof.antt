@@ -7,7 +7,7 @@ use native.Mathlib.Omega.{arith}
 use borrow.Author.Needs.{needs}
 use Rattle.answers.specs.Outcome.{limit}
 use Rattle.runs.specs.Table.{left?, right?, run?}
-use Rattle.runs.proofs.Listed.{part-smallest}
+use Rattle.periods.proofs.Claims.{part-smallest}
 use Rattle.runs.proofs.Rows.{run-short, run-lengthened, run-right, left-none, left-agrees, left-differs, right-end, right-test}
 use Rattle.runs.proofs.inner.is_run.Statement.{statement}
 use Rattle.runs.proofs.inner.is_run.Tie as tie

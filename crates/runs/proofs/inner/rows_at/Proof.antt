@@ -11,7 +11,7 @@ use Rattle.periods.specs.Period.{part, smallestPeriod}
 use Rattle.runs.specs.Run.{Row}
 use Rattle.runs.specs.Table.{rowsAt, stride, flat}
 use Rattle.runs.specs.Inner.{unitsAt}
-use Rattle.runs.proofs.Listed.{part-smallest}
+use Rattle.periods.proofs.Claims.{part-smallest}
 use Rattle.runs.proofs.Rows.{part-long, units-left, units-place, rows-none, rows-skip, rows-add, rows-at-most, put-rows}
 use Rattle.runs.proofs.inner.rows_at.Statement.{statement}
 use Rattle.runs.proofs.inner.rows_at.Tie as tie
