@@ -6,9 +6,12 @@
 //! least of several batches, those of the library and of the twin taking turns.
 
 mod twin;
+#[path = "../tests/words/mod.rs"]
+mod words;
 
 use cegridom::raw;
 use std::hint::black_box;
+use words::{fibonacci, last_differs, thue_morse};
 
 const LENGTHS: [usize; 4] = [512, 1024, 2048, 4096];
 const BATCHES: usize = 11;
@@ -25,26 +28,6 @@ fn random(n: usize, symbols: u64) -> Vec<u8> {
             ((state >> 11) % symbols) as u8
         })
         .collect()
-}
-
-fn fibonacci(n: usize) -> Vec<u8> {
-    let (mut shorter, mut longer) = (b"b".to_vec(), b"a".to_vec());
-    while longer.len() < n {
-        let next = [longer.clone(), shorter].concat();
-        shorter = std::mem::replace(&mut longer, next);
-    }
-    longer.truncate(n);
-    longer
-}
-
-fn last_differs(n: usize) -> Vec<u8> {
-    let mut word = vec![b'a'; n];
-    word[n - 1] = b'b';
-    word
-}
-
-fn thue_morse(n: usize) -> Vec<u8> {
-    (0..n as u32).map(|i| (i.count_ones() % 2) as u8).collect()
 }
 
 fn period_64(n: usize) -> Vec<u8> {

@@ -4,10 +4,12 @@
 //! One comparison is one call with all of that. Each test prints how many it made.
 
 mod reference;
+mod words;
 
 use cegridom::raw;
 use reference::Outcome::{self, Accepted, Refused};
 use reference::{Run, LIMIT};
+use words::{fibonacci, last_differs, thue_morse};
 
 /// What stands in a value before a call, and beside a table.
 const GUARD: u32 = 0xdead_beef;
@@ -426,28 +428,10 @@ impl Numbers {
     }
 }
 
-fn fibonacci(n: usize) -> Vec<u8> {
-    let (mut shorter, mut longer) = (b"b".to_vec(), b"a".to_vec());
-    while longer.len() < n {
-        let next = [longer.clone(), shorter].concat();
-        shorter = std::mem::replace(&mut longer, next);
-    }
-    longer.truncate(n);
-    longer
-}
-
-fn thue_morse(n: usize) -> Vec<u8> {
-    (0..n as u32).map(|i| (i.count_ones() % 2) as u8).collect()
-}
-
 /// Words of a length that have structure: equal symbols, a last symbol that differs, Fibonacci,
 /// Thue-Morse, period 64, repetitions joined, and random ones.
 fn structured(n: usize) -> Vec<Vec<u8>> {
     let mut numbers = Numbers(0x9e37_79b9_7f4a_7c15 ^ n as u64);
-    let mut last_differs = vec![b'a'; n];
-    if let Some(symbol) = last_differs.last_mut() {
-        *symbol = b'b';
-    }
     let period = numbers.word(64, 4);
     let mut joined = Vec::new();
     while joined.len() < n {
@@ -459,7 +443,7 @@ fn structured(n: usize) -> Vec<Vec<u8>> {
     joined.truncate(n);
     vec![
         vec![b'a'; n],
-        last_differs,
+        last_differs(n),
         fibonacci(n),
         thue_morse(n),
         (0..n).map(|i| period[i % 64]).collect(),

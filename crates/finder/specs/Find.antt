@@ -4,15 +4,12 @@ use mathlib.Core.Bool.{Bool, true, false, _&&_}
 use mathlib.Core.List.{List, [], _∷_, _++_}
 use lib.ListN.{take, getD}
 use lib.Dec.{leb, eqb}
+use Rattle.runs.specs.Table.{stride}
 use Rattle.finder.specs.declared.Run.{Run}
 
 -- how many records the bench program holds
 abbrev pub recordLimit : ℕ
 recordLimit = 1024
-
--- the numbers of a record in a flat table
-abbrev pub recordSize : ℕ
-recordSize = 3
 
 -- the bounds lo to hi enclose first to last, and the periods are the same
 abbrev pub enclosesb : ℕ → ℕ → ℕ → ℕ → ℕ → ℕ → Bool
@@ -34,7 +31,7 @@ findIn rs count first last period = findRun (take count rs) first last period
 
 -- record n of a flat table
 abbrev pub recordAt : List ℕ → ℕ → Run
-recordAt t n = record { first = getD t (n * recordSize) 0; last = getD t (n * recordSize + 1) 0; period = getD t (n * recordSize + 2) 0 }
+recordAt t n = record { first = getD t (n * stride) 0; last = getD t (n * stride + 1) 0; period = getD t (n * stride + 2) 0 }
 
 -- the first n records of a flat table
 abbrev pub recordsOf : List ℕ → ℕ → List Run

@@ -2,10 +2,11 @@
 ghost use mathlib.Core.Path.{_≡_};
 ghost use Prim.Native.Nat.{_*_, _≤_};
 ghost use lib.ListN.{length, take};
-ghost use Rattle.finder.specs.Find.{recordLimit, recordSize, findIn, recordsOf};
+ghost use Rattle.runs.specs.Table.{stride};
+ghost use Rattle.finder.specs.Find.{recordLimit, findIn, recordsOf};
 use crate::RECORDS;
 use crate::Run;
-use crate::STRIDE;
+use runs::STRIDE;
 
 // find_run over the first count records of an array, which is lent for the call.
 pub fn find_in(runs: [Run; RECORDS], count: usize, first: u32, last: u32, period: u32) -> usize
@@ -17,7 +18,7 @@ pub fn find_in(runs: [Run; RECORDS], count: usize, first: u32, last: u32, period
 
 // The records of a flat table.
 pub fn records(table: &[u32], count: usize) -> [Run; RECORDS]
-    requires { ⌜ count ≤ recordLimit ⌝ ∗ ⌜ count * recordSize ≤ length (now table) ⌝ }
+    requires { ⌜ count ≤ recordLimit ⌝ ∗ ⌜ count * stride ≤ length (now table) ⌝ }
     ensures { λ r. ⌜ take count r ≡ recordsOf (now (table .entry)) count ⌝ }
 {
     let mut runs = [Run {

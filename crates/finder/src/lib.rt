@@ -8,9 +8,6 @@ pub mod inner;
 // How many records the bench program holds.
 pub const RECORDS: usize = 1024;
 
-// How many numbers a record has in a flat table.
-pub const STRIDE: usize = 3;
-
 // The record of a run.
 pub struct Run {
     pub first: u32,

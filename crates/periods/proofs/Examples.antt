@@ -1,7 +1,7 @@
 -- Document 01's examples of the definitions that the contracts of this crate cite, computed. Assumes nothing.
 use mathlib.Core.Path.{_≡_, refl}
 use mathlib.Core.Bool.{true, false}
-use mathlib.Core.List.{List, [], _∷_}
+use mathlib.Core.List.{List, [], _∷_, _++_}
 use Prim.Native.Nat.{ℕ}
 use lib.ListN.{replicate}
 use Rattle.answers.specs.Outcome.{accepted, refused}
@@ -51,6 +51,11 @@ pub part-too-long-first : partOutcome (replicate 4097 97) 0 0 ≡ refused 1 0
 unfolding partOutcome
 part-too-long-first = refl
 
+-- "The limit is n = 4,096": so many are taken
+pub part-longest : partOutcome (replicate 4096 97) 0 0 ≡ refused 6 0
+unfolding partOutcome
+part-longest = refl
+
 -- "Taking any period as the unit: aaaa then has two paths for one split." Its unit is 1.
 pub smallest-of-aaaa : smallestPeriod (97 ∷ 97 ∷ 97 ∷ 97 ∷ []) ≡ 1
 unfolding smallestPeriod
@@ -64,6 +69,14 @@ twice-is-a-block = refl
 pub twice-is-not-thrice : repetition? anyPeriod 3 (97 ∷ 98 ∷ 97 ∷ 98 ∷ []) ≡ false
 unfolding repetition? smallestPeriod
 twice-is-not-thrice = refl
+
+-- "A unit may be of any length": one pass of code 1 and 256 of code 0, all wound twice
+abbrev long-unit : List ℕ
+long-unit = 1 ∷ replicate 256 0
+
+pub unit-of-257 : repetition? anyPeriod 2 (long-unit ++ long-unit) ≡ true
+unfolding repetition? smallestPeriod
+unit-of-257 = refl
 
 pub prefix-periods-of-aabaabaa : prefixPeriods aabaabaa 8 ≡ 1 ∷ 1 ∷ 3 ∷ 3 ∷ 3 ∷ 3 ∷ 3 ∷ 3 ∷ []
 unfolding prefixPeriods smallestPeriod

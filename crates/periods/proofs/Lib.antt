@@ -2,5 +2,6 @@ pub mod Search
 pub mod InPlace
 pub mod Claims
 pub mod PartClaims
+pub mod Determined
 mod Units
 pub mod Examples

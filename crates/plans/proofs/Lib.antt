@@ -1,4 +1,5 @@
 pub mod Loops
 pub mod LineClaims
 pub mod CallClaims
+pub mod Determined
 pub mod Examples

@@ -203,7 +203,7 @@ module _ (w : List ℕ) (choice : ℕ) (e t : List ℕ) where
   promised-settled h i j k = record { answer = sym (tested-fine _ _ _ _ h i j k); ends = sym (tested-fine _ _ _ _ h i j k); work = sym (tested-fine _ _ _ _ h i j k) }
 
   -- the working table after an answer, 2 and 7
-  settled-table : rows * (length w + 1) ≤ length t → length w < none
+  pub settled-table : rows * (length w + 1) ≤ length t → length w < none
       → Settled w choice e t (sizeOutcome (lastCell w choice) (length e)) (sizeEnds (lastCell w choice) (bestEnds (choiceOf choice) (block? anyPeriod turns w) (length w)) e)
       (sizes (choiceOf choice) (block? anyPeriod turns w) (length w) ++ (replicate (3 * (length w + 1)) 0 ++ drop (rows * (length w + 1)) t))
   settled-table room small = record {

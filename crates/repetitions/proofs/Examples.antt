@@ -17,6 +17,7 @@ use Rattle.runs.specs.Inner.{entryOf}
 use Rattle.factors.specs.Factorization.{LongerFromEnd, cell, bestEnds}
 use Rattle.factors.specs.Table.{none, sizes}
 use Rattle.factors.specs.Verdict.{verdict}
+use Rattle.repetitions.specs.Block.{block?}
 use Rattle.repetitions.specs.Graph.{Node, black, white, Path, total, drops, encoding}
 use Rattle.repetitions.specs.BestSplit.{bestOutcome, bestEndsTable, bestWork}
 use Rattle.repetitions.specs.Judges.{splitOutcome, firstNumber, runNumber, runNumbers, pathOutcome, pathTable, pathJudgedOutcome}
@@ -442,7 +443,24 @@ path-unfinished = refl
 
 -- ---- splits that only look best
 
--- "Taking the longest block each time: abaabaababaabaabababa then starts with 19 passes and is called unsplittable": `fewest-of-001`.
+-- "Taking the longest block each time: abaabaababaabaabababa then starts with 19 passes and is called unsplittable": its longest block at the start has 19, what is
+-- left is none, and there is a split (`fewest-of-001`)
+pub longest-first-is-19 : block? anyPeriod turns word-abaabaababaabaabababa 0 19 ≡ true
+unfolding repetition? smallestPeriod
+longest-first-is-19 = refl
+
+pub longest-first-not-20 : block? anyPeriod turns word-abaabaababaabaabababa 0 20 ≡ false
+unfolding repetition? smallestPeriod
+longest-first-not-20 = refl
+
+pub longest-first-not-21 : block? anyPeriod turns word-abaabaababaabaabababa 0 21 ≡ false
+unfolding repetition? smallestPeriod
+longest-first-not-21 = refl
+
+pub longest-first-fails : splitOutcome word-abaabaababaabaabababa (19 ∷ 21 ∷ []) ≡ refused 4 2
+unfolding splitOutcome verdict repetition? smallestPeriod
+longest-first-fails = refl
+
 -- "Counting an unreachable joint as size 0: baa then has one block": baa of the starred cases is refused.
 -- "The strict bound of section 4.1: aa is then refused": aa of the starred cases is accepted, and it has a path:
 pub path-of-aa : pathJudgedOutcome word-aa (1 ∷ 2 ∷ []) ≡ accepted (1 ∷ [])

@@ -7,4 +7,5 @@ pub mod JudgeClaims
 pub mod PathClaims
 pub mod NumberLaws
 pub mod PathJudgeClaims
+pub mod Determined
 pub mod Examples

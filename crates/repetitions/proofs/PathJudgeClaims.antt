@@ -168,7 +168,7 @@ module _ (w : List ℕ) (t : ℕ → ℕ → ℕ → Bool) where
       ∙ segments-accepted ns (suc k) e (agrees-rest k r e ns A) (s .1) ∙ ap (λ (x : ℕ). accepted (x ∷ [])) (omega arith)
 
 module _ (w ns : List ℕ) where
-  decides : (m i j : ℕ) → (T (segment? anyPeriod turns w ns m i j) ↔ Segment anyPeriod turns w (numberGiven ns m) i j)
+  pub decides : (m i j : ℕ) → (T (segment? anyPeriod turns w ns m i j) ↔ Segment anyPeriod turns w (numberGiven ns m) i j)
   decides m i j = segment-decides anyPeriod turns w (numberGiven ns m) i j
 
   agrees : Agrees w (segment? anyPeriod turns w ns) 0 ns

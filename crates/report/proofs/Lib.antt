@@ -2,4 +2,5 @@ pub mod Stores
 pub mod Lines
 pub mod Splits
 pub mod Reports
+pub mod Determined
 pub mod Examples

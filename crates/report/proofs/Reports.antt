@@ -19,6 +19,7 @@ use Rattle.runs.specs.Calls.{runsOutcome, runsTable}
 use Rattle.runs.proofs.Rows.{length-flat}
 use Rattle.runs.proofs.Records.{records-left}
 use Rattle.runs.proofs.Listed.{runs-listed}
+use Rattle.runs.proofs.Determined.{lists-unique}
 use Rattle.factors.specs.Factorization.{choiceOf, Cell, unreachable, reached}
 use Rattle.factors.proofs.Optimal.{Answers}
 use Rattle.repetitions.specs.Block.{Block}
@@ -27,7 +28,7 @@ use Rattle.repetitions.proofs.BestClaims.{word-answers}
 use Rattle.finder.specs.Find.{recordLimit}
 use Rattle.report.specs.Text.{programLimit, fewestName, mostName, refusedText, splitLines, splitText, text, reportOutcome, reportTable}
 use Rattle.report.specs.Records.{longestText, printedOutcome, printedTable}
-use Rattle.report.specs.Meaning.{SplitPrinted, none-printed, best-printed, Printed, refused-alone, all-lines, ReportMeaning, too-many-runs, too-few, reported}
+use Rattle.report.specs.Meaning.{SplitPrinted, none-printed, best-printed, Printed, refused-alone, all-lines, Held, ReportMeaning, too-many-runs, too-few, reported}
 use Rattle.report.proofs.Splits.{endsOf, text-is, text-long}
 
 -- ---- the runs call
@@ -65,6 +66,10 @@ module _ (w z : List ℕ) (held : length w ≤ programLimit) (places : length z 
 
 -- ---- the report, by its tests
 
+text-refused : (w : List ℕ) → programLimit < length w → text w ≡ refusedText
+unfolding text
+text-refused w h = rw (lt-ltb programLimit (length w) h) refl
+
 module _ (w t : List ℕ) where
   -- what it promises
   abbrev pub Promised : Outcome → List ℕ → Type 0
@@ -82,6 +87,14 @@ module _ (w t : List ℕ) where
   unfolding reportOutcome reportTable
   promised-printed h k = rw (le-ltb programLimit (length w) h, le-ltb recordLimit (length (runsOf w)) k) (refl, refl)
 
+  -- the text, if the records hold the runs of a word that the program takes
+  pub promised-text : (length w ≤ programLimit → length (runsOf w) ≤ recordLimit) → Promised (printedOutcome (text w) (length t)) (printedTable (text w) t)
+  promised-text H = go (decLt programLimit (length w))
+    where
+      go : Dec (programLimit < length w) → Promised (printedOutcome (text w) (length t)) (printedTable (text w) t)
+      go (yes h) = rw (text-refused w h) (promised-long h)
+      go (no h) = promised-printed (omega arith) (H (omega arith))
+
 -- ---- what it means
 
 split-printed : (w : List ℕ) (choice : ℕ) (name : List ℕ) → SplitPrinted w (choiceOf choice) name (splitText w choice name)
@@ -91,10 +104,6 @@ split-printed w choice name = go (lastCell w choice) (word-answers (choiceOf cho
     go : (v : Cell) → Answers (choiceOf choice) (Block anyPeriod turns w) (length w) v (endsOf w choice) → SplitPrinted w (choiceOf choice) name (splitLines w name v (endsOf w choice))
     go unreachable A = none-printed A refl
     go (reached s p) A = best-printed (endsOf w choice) (rw (A .sized) A) (rw (A .sized) refl)
-
-text-refused : (w : List ℕ) → programLimit < length w → text w ≡ refusedText
-unfolding text
-text-refused w h = rw (lt-ltb programLimit (length w) h) refl
 
 -- CLAIM: the text has the lines that document 01 asks
 pub text-printed : (w : List ℕ) → Printed w (text w)
@@ -108,12 +117,12 @@ text-printed w = go (decLt programLimit (length w))
 
 module _ (w t : List ℕ) where
   -- a text that is printed where there is room
-  printed-means : (s : List ℕ) → Printed w s → ReportMeaning w t (printedOutcome s (length t)) (printedTable s t)
-  printed-means s P = go (decLt (length t) (length s))
+  printed-means : Held w → (s : List ℕ) → Printed w s → ReportMeaning w t (printedOutcome s (length t)) (printedTable s t)
+  printed-means H s P = go (decLt (length t) (length s))
     where
       go : Dec (length t < length s) → ReportMeaning w t (printedOutcome s (length t)) (printedTable s t)
-      go (yes h) = rw (lt-ltb (length t) (length s) h) (too-few s P h refl refl)
-      go (no h) = rw (le-ltb (length t) (length s) (omega arith)) (reported s P (omega arith) refl refl)
+      go (yes h) = rw (lt-ltb (length t) (length s) h) (too-few H s P h refl refl)
+      go (no h) = rw (le-ltb (length t) (length s) (omega arith)) (reported H s P (omega arith) refl refl)
 
   -- CLAIM: the report is the text, or 7 where there is no room for it or more runs than records
   pub report-means : ReportMeaning w t (reportOutcome w (length t)) (reportTable w t)
@@ -123,9 +132,9 @@ module _ (w t : List ℕ) where
       by P M = rw (← P .0, ← P .1) M
 
       go : Dec (programLimit < length w) → Dec (recordLimit < length (runsOf w)) → ReportMeaning w t (reportOutcome w (length t)) (reportTable w t)
-      go (yes h) k = by (promised-long w t h) (printed-means refusedText (refused-alone h refl))
+      go (yes h) k = by (promised-long w t h) (printed-means (λ l rows L. absurd (omega arith)) refusedText (refused-alone h refl))
       go (no h) (yes k) = by (promised-many w t (omega arith) k) (too-many-runs (omega arith) (runsOf w) (runs-listed w) k refl refl)
-      go (no h) (no k) = by (promised-printed w t (omega arith) (omega arith)) (printed-means (text w) (text-printed w))
+      go (no h) (no k) = by (promised-printed w t (omega arith) (omega arith)) (printed-means (λ l rows L. omega (arith, ap length (lists-unique w rows (runsOf w) L (runs-listed w)))) (text w) (text-printed w))
 
   -- what the call ensures
   pub report-answered : (o : Outcome) (u : List ℕ) → Promised w t o u → (o ≡ reportOutcome w (length t)) × ((u ≡ reportTable w t) × ReportMeaning w t o u)
@@ -145,5 +154,5 @@ module _ (w t : List ℕ) where
 -- an answer of so many bytes has them in the lent table
 pub reported-count : (w t u : List ℕ) (n : ℕ) → ReportMeaning w t (accepted (n ∷ [])) u → n ≤ length t
 reported-count w t u n (too-many-runs a b c d e f) = absurd (let o : _≡_ {A = ℕ} 0 1 = cc in omega arith)
-reported-count w t u n (too-few s P a e f) = absurd (let o : _≡_ {A = ℕ} 0 1 = cc in omega arith)
-reported-count w t u n (reported s P a e f) = let q : n ≡ length s = cc in omega arith
+reported-count w t u n (too-few H s P a e f) = absurd (let o : _≡_ {A = ℕ} 0 1 = cc in omega arith)
+reported-count w t u n (reported H s P a e f) = let q : n ≡ length s = cc in omega arith

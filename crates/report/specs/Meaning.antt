@@ -23,8 +23,12 @@ pub data Printed (w s : List ℕ) : Type 0 where
       length w ≤ programLimit → (rows : List Row) → Lists w rows → (fewest most : List ℕ) → SplitPrinted w smallest fewestName fewest → SplitPrinted w largest mostName most
       → s ≡ line passesName (length w ∷ []) ++ (runLines 0 rows ++ (fewest ++ most)) → Printed w s
 
+-- if the program takes the word, it holds records of all its runs
+abbrev pub Held : List ℕ → Type 0
+Held w = length w ≤ programLimit → (rows : List Row) → Lists w rows → length rows ≤ recordLimit
+
 -- t is the lent table of bytes at entry, u at exit
 pub data ReportMeaning (w t : List ℕ) (o : Outcome) (u : List ℕ) : Type 0 where
   too-many-runs : length w ≤ programLimit → (rows : List Row) → Lists w rows → recordLimit < length rows → o ≡ refused 7 0 → u ≡ t → ReportMeaning w t o u
-  too-few : (s : List ℕ) → Printed w s → length t < length s → o ≡ refused 7 0 → u ≡ t → ReportMeaning w t o u
-  reported : (s : List ℕ) → Printed w s → length s ≤ length t → o ≡ accepted (length s ∷ []) → u ≡ s ++ drop (length s) t → ReportMeaning w t o u
+  too-few : Held w → (s : List ℕ) → Printed w s → length t < length s → o ≡ refused 7 0 → u ≡ t → ReportMeaning w t o u
+  reported : Held w → (s : List ℕ) → Printed w s → length s ≤ length t → o ≡ accepted (length s ∷ []) → u ≡ s ++ drop (length s) t → ReportMeaning w t o u

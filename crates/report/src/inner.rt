@@ -97,7 +97,7 @@ fn run_lines(table: &[u32], count: usize, out: &mut [u8], at: usize) -> usize
     let mut next = at;
     let mut i: usize = 0;
     while i < count {
-        let place = finder::STRIDE * i;
+        let place = runs::STRIDE * i;
         let numbers = [
             (i + 1) as u32,
             table[place],

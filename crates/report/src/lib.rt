@@ -27,7 +27,7 @@ pub fn report(w: &[u8], out: &mut [u8]) -> Counted
     if PROGRAM_LIMIT < w.len() {
         return inner::refuse(out);
     }
-    let mut table = [0u32; finder::STRIDE * finder::RECORDS];
+    let mut table = [0u32; runs::STRIDE * finder::RECORDS];
     let listed = runs::runs(w, &mut table);
     match listed {
         Counted::Refused(_) => Counted::Refused(Refusal::TooFewPlaces),

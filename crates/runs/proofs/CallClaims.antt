@@ -36,14 +36,14 @@ module _ (w t : List ℕ) where
   unfolding runsOutcome runsTable
   runs-too-long h = (simp (lt-ltb limit (length w) h), simp (lt-ltb limit (length w) h))
 
-  runs-few : length w ≤ limit → length t < stride * length (runsOf w) → RunsGive w t (refused 7 0) t
+  pub runs-few : length w ≤ limit → length t < stride * length (runsOf w) → RunsGive w t (refused 7 0) t
   unfolding runsOutcome runsTable
   runs-few h k = (
     simp (le-ltb limit (length w) h, lt-ltb (length t) (stride * length (runsOf w)) k),
     simp (le-ltb limit (length w) h, lt-ltb (length t) (stride * length (runsOf w)) k),
   )
 
-  runs-all : length w ≤ limit → stride * length (runsOf w) ≤ length t
+  pub runs-all : length w ≤ limit → stride * length (runsOf w) ≤ length t
       → RunsGive w t (accepted (length (runsOf w) ∷ [])) (flat (runsOf w) ++ drop (stride * length (runsOf w)) t)
   unfolding runsOutcome runsTable
   runs-all h k = (
@@ -98,7 +98,7 @@ module _ (w : List ℕ) (x : ℕ) where
   abbrev numbers : List ℕ
   numbers = nodesAt anyPeriod turns w x
 
-  listed-nodes : ListsNodes anyPeriod turns (runsOf w) x numbers
+  pub listed-nodes : ListsNodes anyPeriod turns (runsOf w) x numbers
   unfolding nodesAt
   listed-nodes = nodes-listed anyPeriod turns (runsOf w) x
 
@@ -111,14 +111,14 @@ module _ (w : List ℕ) (x : ℕ) where
     unfolding nodesOutcome nodesTable
     nodes-outside h k = (simp (le-ltb limit (length w) h, outside-tests k), simp (le-ltb limit (length w) h, outside-tests k))
 
-    nodes-few : length w ≤ limit → (1 ≤ x) × (x ≤ length w) → length t < length numbers → NodesGive w x t (refused 7 0) t
+    pub nodes-few : length w ≤ limit → (1 ≤ x) × (x ≤ length w) → length t < length numbers → NodesGive w x t (refused 7 0) t
     unfolding nodesOutcome nodesTable
     nodes-few h k l = (
       simp (le-ltb limit (length w) h, within-tests k, lt-ltb (length t) (length numbers) l),
       simp (le-ltb limit (length w) h, within-tests k, lt-ltb (length t) (length numbers) l),
     )
 
-    nodes-all : length w ≤ limit → (1 ≤ x) × (x ≤ length w) → length numbers ≤ length t
+    pub nodes-all : length w ≤ limit → (1 ≤ x) × (x ≤ length w) → length numbers ≤ length t
         → NodesGive w x t (accepted (length numbers ∷ [])) (numbers ++ drop (length numbers) t)
     unfolding nodesOutcome nodesTable
     nodes-all h k l = (

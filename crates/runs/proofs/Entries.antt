@@ -40,7 +40,8 @@ entry-one-row [] (suc i) r s h k = absurd h
 entry-one-row (x ∷ xs) (suc zero) r s h k = sym h ∙ k
 entry-one-row (x ∷ xs) (suc (suc i)) r s h k = entry-one-row xs (suc i) r s h k
 
-not-before : (r s : Row) → r .first ≡ s .first → r .period ≡ s .period → Before r s → ⊥
+-- records with one first and one period are not in order
+pub not-before : (r s : Row) → r .first ≡ s .first → r .period ≡ s .period → Before r s → ⊥
 not-before r s e f (inl h) = omega arith
 not-before r s e f (inr h) = omega arith
 

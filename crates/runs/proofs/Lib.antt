@@ -5,5 +5,6 @@ pub mod Rows
 pub mod Records
 pub mod WhiteNodes
 pub mod CallClaims
+pub mod Determined
 pub mod LookUps
 pub mod Examples

@@ -1,0 +1,153 @@
+-- The meanings in the contracts of this crate's calls leave nothing open: only the answer and the tables that the computed definitions give have them. A verdict with
+-- its meaning is one only, so is a best factorization, and a factorization has one path. By cases on the meanings. Assumes nothing.
+use mathlib.Core.Path.{_≡_, sym, ap, ap₂, _∙_, subst}
+use mathlib.Core.Logic.{_⊎_, inl, inr}
+use mathlib.Core.List.{List, [], _∷_, _++_}
+use Prim.Native.Nat.{ℕ, _+_, _-_, _*_, _≤_, _<_}
+use native.Mathlib.Omega.{arith}
+use native.Mathlib.Decide.{decLt, decLe}
+use lib.ListN.{length, getD, take, drop}
+use lib.Seq.{getD-drop, ext-getD}
+use Rattle.answers.specs.Outcome.{Outcome, accepted, refused, limit}
+use Rattle.periods.specs.Period.{anyPeriod, turns}
+use Rattle.factors.specs.Factorization.{Factorization, Choice, choiceOf, AsGood}
+use Rattle.factors.specs.Table.{rows}
+use Rattle.factors.proofs.Optimal.{as-good-antisym, best-unique}
+use Rattle.factors.proofs.VerdictClaims.{verdict-means, meaning-determines, accepted-factorization}
+use Rattle.repetitions.specs.Block.{Block, block?}
+use Rattle.repetitions.specs.Graph.{Node, black, Path, GoTogether, encoding, runsOfPairs, endsOfPairs, Segment}
+use Rattle.repetitions.specs.BestSplit as split
+use Rattle.repetitions.specs.BestSplit.{bestOutcome, bestEndsTable, bestWork, Reported, Answered, Settled, BestMeaning}
+use Rattle.repetitions.specs.Judges as judges
+use Rattle.repetitions.specs.Judges.{splitOutcome, SplitMeaning, runNumbers, pathOutcome, pathTable, PathMeaning, numberGiven, segment?, pathJudgedOutcome, PathJudgedMeaning}
+use Rattle.repetitions.proofs.Blocks.{block-sound, block-complete, block-up}
+use Rattle.repetitions.proofs.Paths.{word-one-to-one}
+use Rattle.repetitions.proofs.BestClaims.{Promised, promised-long, promised-bad, promised-short, promised-settled, settled-table}
+use Rattle.repetitions.proofs.JudgeClaims.{split-too-long, split-judged}
+use Rattle.repetitions.proofs.PathClaims.{numbers-path, PathPromised, path-promised-refused, path-promised-few, path-promised-numbered}
+use Rattle.repetitions.proofs.PathJudgeClaims.{decides, path-too-long, path-odd, path-judged}
+
+-- ---- best split
+
+-- what is reported of a word
+pub reported-unique : (c : Choice) (u : List ℕ) (v x : ℕ) → Reported c u v → Reported c u x → v ≡ x
+reported-unique c u v x (split.Reported.unsplittable e n) (split.Reported.unsplittable f m) = e ∙ sym f
+reported-unique c u v x (split.Reported.unsplittable e n) (split.Reported.best fs F r k h) = absurd (n fs F)
+reported-unique c u v x (split.Reported.best es E s l g) (split.Reported.unsplittable f m) = absurd (m es E)
+reported-unique c u v x (split.Reported.best es E s l g) (split.Reported.best fs F r k h) =
+    as-good-antisym c v x (subst (λ (z : ℕ). AsGood c v z) r (g fs F)) (subst (λ (z : ℕ). AsGood c x z) s (h es E))
+
+-- what is answered of it, and the ends
+pub answered-unique : (c : Choice) (w e : List ℕ) (v z : ℕ) (o p : Outcome) (x y : List ℕ) → Answered c w e v o x → Answered c w e z p y → (o ≡ p) × (x ≡ y)
+answered-unique c w e v z o p x y (split.Answered.no-split n a b) (split.Answered.no-split m d f) = (a ∙ sym d, b ∙ sym f)
+answered-unique c w e v z o p x y (split.Answered.no-split n a b) (split.Answered.too-few fs C l d f) = absurd (n fs (C .factorization))
+answered-unique c w e v z o p x y (split.Answered.no-split n a b) (split.Answered.written fs C l d f) = absurd (n fs (C .factorization))
+answered-unique c w e v z o p x y (split.Answered.too-few es B k a b) (split.Answered.no-split m d f) = absurd (m es (B .factorization))
+answered-unique c w e v z o p x y (split.Answered.too-few es B k a b) (split.Answered.too-few fs C l d f) = (a ∙ sym d, b ∙ sym f)
+answered-unique c w e v z o p x y (split.Answered.too-few es B k a b) (split.Answered.written fs C l d f) =
+    absurd (omega (arith, best-unique c (Block anyPeriod turns w) (length w) v z es fs B C .0))
+answered-unique c w e v z o p x y (split.Answered.written es B k a b) (split.Answered.no-split m d f) = absurd (m es (B .factorization))
+answered-unique c w e v z o p x y (split.Answered.written es B k a b) (split.Answered.too-few fs C l d f) =
+    absurd (omega (arith, best-unique c (Block anyPeriod turns w) (length w) v z es fs B C .0))
+answered-unique c w e v z o p x y (split.Answered.written es B k a b) (split.Answered.written fs C l d f) =
+    let q = best-unique c (Block anyPeriod turns w) (length w) v z es fs B C in (
+      a ∙ ap (λ (s : ℕ). accepted (s ∷ [])) (q .0) ∙ sym d,
+      b ∙ ap₂ (λ (s : ℕ) (l : List ℕ). l ++ drop s e) (q .0) (q .1) ∙ sym f,
+    )
+
+module _ (w : List ℕ) (choice : ℕ) (e t : List ℕ) where
+  -- the working table, place by place
+  work-unique : (o p : Outcome) (x u y z : List ℕ) → Settled w choice e t o x y → Settled w choice e t p u z → y ≡ z
+  work-unique o p x u y z S R = ext-getD 0 y z (S .long ∙ sym (R .long)) (λ i l. at i (decLe i (length w)) (decLt i k))
+    where
+      k : ℕ
+      k = rows * (length w + 1)
+
+      at : (i : ℕ) → Dec (i ≤ length w) → Dec (i < k) → getD y i 0 ≡ getD z i 0
+      at i (yes a) d = reported-unique (choiceOf choice) (take i w) (getD y i 0) (getD z i 0) (S .prefixes i a) (R .prefixes i a)
+      at i (no a) (yes b) = S .cleared i (omega arith) b ∙ sym (R .cleared i (omega arith) b)
+      at i (no a) (no b) =
+          let q : k + (i - k) ≡ i = omega arith in
+          ap (λ (j : ℕ). getD y j 0) (sym q) ∙ sym (getD-drop k y (i - k) 0) ∙ ap (λ (l : List ℕ). getD l (i - k) 0) (S .kept ∙ sym (R .kept))
+          ∙ getD-drop k z (i - k) 0 ∙ ap (λ (j : ℕ). getD z j 0) q
+
+  -- CLAIM: the meaning of best split determines the answer, the ends and the working table
+  pub best-determined : (o : Outcome) (x y : List ℕ) → BestMeaning w choice e t o x y → (o ≡ bestOutcome w choice e t) × (x ≡ bestEndsTable w choice e t) × (y ≡ bestWork w choice t)
+  best-determined o x y M = go M
+    where
+      by : {p : Outcome} {u z : List ℕ} → o ≡ p → x ≡ u → y ≡ z → Promised w choice e t p u z → (o ≡ bestOutcome w choice e t) × (x ≡ bestEndsTable w choice e t) × (y ≡ bestWork w choice t)
+      by a b d P = (a ∙ P .answer, b ∙ P .ends, d ∙ P .work)
+
+      low : (choice ≡ 1) ⊎ (choice ≡ 2) → 1 ≤ choice
+      low (inl q) = omega arith
+      low (inr q) = omega arith
+
+      high : (choice ≡ 1) ⊎ (choice ≡ 2) → choice ≤ 2
+      high (inl q) = omega arith
+      high (inr q) = omega arith
+
+      neither : (choice ≡ 1 → ⊥) → (choice ≡ 2 → ⊥) → Dec (choice < 1) → (choice < 1) ⊎ (2 < choice)
+      neither a b (yes l) = inl l
+      neither a b (no l) = inr (above (decLt 2 choice))
+        where
+          above : Dec (2 < choice) → 2 < choice
+          above (yes h) = h
+          above (no h) = absurd (b (omega (arith, a)))
+
+      go : BestMeaning w choice e t o x y → (o ≡ bestOutcome w choice e t) × (x ≡ bestEndsTable w choice e t) × (y ≡ bestWork w choice t)
+      go (split.BestMeaning.too-long h a b d) = by a b d (promised-long w choice e t h)
+      go (split.BestMeaning.bad-choice h n m a b d) = by a b d (promised-bad w choice e t h (neither n m (decLt choice 1)))
+      go (split.BestMeaning.short-table h c k a b d) = by a b d (promised-short w choice e t h (low c) (high c) k)
+      go (split.BestMeaning.settled h c k S) =
+          let R = settled-table w choice e t k (omega arith) in
+          let q = answered-unique (choiceOf choice) w e _ _ o _ x _ (S .answered) (R .answered) in
+          by (q .0) (q .1) (work-unique o _ x _ y _ S R) (promised-settled w choice e t h (low c) (high c) k)
+
+-- ---- judge a split
+
+-- CLAIM: the meaning of judge a split determines the answer
+pub split-determined : (w ends : List ℕ) (o : Outcome) → SplitMeaning w ends o → o ≡ splitOutcome w ends
+split-determined w ends o (judges.SplitMeaning.too-long h e) = e ∙ split-too-long w ends h
+split-determined w ends o (judges.SplitMeaning.judged h J) =
+    meaning-determines (λ k. Block anyPeriod turns w) (length w) ends (J .verdict-on)
+    (verdict-means (λ k. block? anyPeriod turns w) (λ k. Block anyPeriod turns w) (λ k. block-sound anyPeriod turns w) (λ k. block-complete anyPeriod turns w) (length w) ends)
+    ∙ split-judged w ends h
+
+-- ---- path of a split
+
+factorization-accepted : (w ends : List ℕ) → length w ≤ limit → Factorization (Block anyPeriod turns w) (length w) ends → accepted (length ends ∷ []) ≡ splitOutcome w ends
+factorization-accepted w ends h F =
+    sym (accepted-factorization (block? anyPeriod turns w) (Block anyPeriod turns w) (block-sound anyPeriod turns w) (block-complete anyPeriod turns w) (length w) (block-up anyPeriod turns w) ends .1 F)
+    ∙ split-judged w ends h
+
+-- the run numbers of a path that goes with the split
+path-numbers : (w ends : List ℕ) → Factorization (Block anyPeriod turns w) (length w) ends → (xs : List Node) → Path anyPeriod turns w (length w) xs → GoTogether xs ends
+    → runsOfPairs (encoding (black 0) xs) ≡ runNumbers w 0 ends
+path-numbers w ends F xs v g =
+    let p = numbers-path w ends F in
+    ap (λ (ys : List Node). runsOfPairs (encoding (black 0) ys)) (word-one-to-one w (length w) (omega arith) .one-path xs (p .0) v (p .1) (g ∙ sym (p .2))) ∙ p .3
+
+-- CLAIM: the meaning of path of a split determines the answer and the table
+pub path-determined : (w ends t : List ℕ) (o : Outcome) (u : List ℕ) → PathMeaning w ends t o u → (o ≡ pathOutcome w ends (length t)) × (u ≡ pathTable w ends t)
+path-determined w ends t o u M = go M
+  where
+    by : {p : Outcome} {v : List ℕ} → o ≡ p → u ≡ v → PathPromised w ends t p v → (o ≡ pathOutcome w ends (length t)) × (u ≡ pathTable w ends t)
+    by a b P = (a ∙ P .answer, b ∙ P .table)
+
+    go : PathMeaning w ends t o u → (o ≡ pathOutcome w ends (length t)) × (u ≡ pathTable w ends t)
+    go (judges.PathMeaning.refused-split x i S a b) = by a b (path-promised-refused w ends t x i (split-determined w ends (refused x i) S))
+    go (judges.PathMeaning.too-few h F k a b) = by a b (path-promised-few w ends t (length ends ∷ []) (factorization-accepted w ends h F) k)
+    go (judges.PathMeaning.numbered h F k xs v g a b) =
+        by a (b ∙ ap (λ (l : List ℕ). l ++ drop (length ends) t) (path-numbers w ends F xs v g))
+        (path-promised-numbered w ends t (length ends ∷ []) (factorization-accepted w ends h F) k)
+
+-- ---- judge a path
+
+-- CLAIM: the meaning of judge a path determines the answer
+pub path-judged-determined : (w ns : List ℕ) (o : Outcome) → PathJudgedMeaning w ns o → o ≡ pathJudgedOutcome w ns
+path-judged-determined w ns o (judges.PathJudgedMeaning.too-long h e) = e ∙ path-too-long w ns h
+path-judged-determined w ns o (judges.PathJudgedMeaning.odd h q e) = e ∙ path-odd w ns h q
+path-judged-determined w ns o (judges.PathJudgedMeaning.judged h q J) =
+    meaning-determines (λ m i j. Segment anyPeriod turns w (numberGiven ns m) i j) (length w) (endsOfPairs ns) (J .verdict-on)
+    (verdict-means (segment? anyPeriod turns w ns) (λ m i j. Segment anyPeriod turns w (numberGiven ns m) i j) (λ m i j. decides w ns m i j .0) (λ m i j. decides w ns m i j .1) (length w) (endsOfPairs ns))
+    ∙ path-judged w ns h (λ z. omega arith)
