@@ -1,5 +1,5 @@
--- Writing a number in decimal and reading it are inverse to each other, for every width and number; and a plain number has as many digits as it needs and no leading zeros. By induction on the width,
--- on the bytes, and on how many digits there may be. Assumes nothing.
+-- Writing a number in decimal and reading it are inverse to each other, for every width and number; and a plain number has as many digits as it needs and no
+-- leading zeros. By induction on the width, on the bytes, and on how many digits there may be. Assumes nothing.
 use mathlib.Core.Path.{_≡_, refl, sym, ap, ap₂, _∙_, subst}
 use mathlib.Core.Bool.{Bool, true, false, cond}
 use mathlib.Core.List.{List, [], _∷_, _++_, append-nil}

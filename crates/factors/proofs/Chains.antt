@@ -1,5 +1,6 @@
--- Chains of blocks: a chain with one block more at its end, the last block of a chain, one relation of blocks for another, and, where a block's end is above its start, that the boundaries rise and how many blocks there can be.
--- Also the block lengths of a chain with one block more, from the end. All by induction on the ends. Assumes nothing.
+-- Chains of blocks: a chain with one block more at its end, the last block of a chain, one relation of blocks for another, and, where a block's end is above
+-- its start, that the boundaries rise and how many blocks there can be. Also the block lengths of a chain with one block more, from the end. All by induction
+-- on the ends. Assumes nothing.
 use mathlib.Core.Path.{_≡_, refl, ap, _∙_}
 use mathlib.Core.Logic.{_⊎_, inl, inr}
 use mathlib.Core.List.{List, [], _∷_, _++_, reverse, reverse-append}

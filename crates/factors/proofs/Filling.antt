@@ -1,6 +1,6 @@
 -- A factorizer that takes the boundaries in rising order and offers from each that is reached to every boundary where a block from it ends fills the table:
--- rows 0 and 1 then hold the cells. Before boundary j is taken, the places of the boundaries up to j hold their cells, and those of a boundary m above j the best over the
--- previous boundaries below j. Assumes nothing.
+-- rows 0 and 1 then hold the cells. Before boundary j is taken, the places of the boundaries up to j hold their cells, and those of a boundary m above j the
+-- best over the previous boundaries below j. Assumes nothing.
 use mathlib.Core.Path.{_≡_, refl, sym, ap, _∙_, subst}
 use mathlib.Core.Logic.{_≢_}
 use mathlib.Core.Bool.{Bool, true, false, cond}

@@ -1,6 +1,8 @@
--- The computed factorization is the best one. Cells that satisfy the recurrence (Bellman) hold the best size of every prefix, and the way back over the previous boundaries gives the factorization that wins the tie:
--- by induction on the prefix, with the last block taken off (optimal). The scan satisfies the recurrence, since it takes the first strictly better candidate in rising order (scan-says), so the computed cells do.
--- Hence best-factorization, for every relation of blocks that a test decides and whose blocks go up. Also: a best factorization is one only, the size is at most the prefix, and the scan reads no more than sizes. Assumes nothing.
+-- The computed factorization is the best one. Cells that satisfy the recurrence (Bellman) hold the best size of every prefix, and the way back over the
+-- previous boundaries gives the factorization that wins the tie: by induction on the prefix, with the last block taken off (optimal). The scan satisfies the
+-- recurrence, since it takes the first strictly better candidate in rising order (scan-says), so the computed cells do. Hence best-factorization, for every
+-- relation of blocks that a test decides and whose blocks go up. Also: a best factorization is one only, the size is at most the prefix, and the scan reads no
+-- more than sizes. Assumes nothing.
 use mathlib.Core.Path.{_≡_, refl, sym, ap, ap₂, _∙_, subst, subst₂}
 use mathlib.Core.Logic.{_⊎_, inl, inr, _≢_}
 use mathlib.Core.Bool.{Bool, true, false, cond}
@@ -15,7 +17,8 @@ use borrow.Author.Tests.{ltb-true, ltb-false}
 use Rattle.factors.specs.Factorization.{Factorization, size, Choice, smallest, largest, AsGood, blockLengths, FirstGreater, LongerFromEnd, Best, better, Cell, unreachable, reached, offer, scan, cells, cell, follow, endsFrom, bestEnds}
 use Rattle.factors.proofs.Chains.{length-snoc, chain-snoc, Last, chain-last, lengths-back, chain-map}
 
--- what the cell of boundary m and the ends computed for it say: that no factorization of the first m symbols exists, or the best size with the best factorization
+-- what the cell of boundary m and the ends computed for it say: that no factorization of the first m symbols exists, or the best size with the best
+-- factorization
 abbrev pub Answers : Choice → (ℕ → ℕ → Type 0) → ℕ → Cell → List ℕ → Type 0
 Answers c B m unreachable es = (fs : List ℕ) → Factorization B m fs → ⊥
 Answers c B m (reached s p) es = Best c B m s es

@@ -1,5 +1,6 @@
--- The working table and what it means. What start and offer leave at each place, and that the length stays; that a place which holds a cell holds the cell with one more candidate after an offer (offered-cell);
--- and that a row of previous boundaries that agrees with the cells leads back to boundary 0 and gives the best ends (linked, ends-back). By cases on the test of the offer, and by induction on the count of blocks. Assumes nothing.
+-- The working table and what it means. What start and offer leave at each place, and that the length stays; that a place which holds a cell holds the cell with
+-- one more candidate after an offer (offered-cell); and that a row of previous boundaries that agrees with the cells leads back to boundary 0 and gives the
+-- best ends (linked, ends-back). By cases on the test of the offer, and by induction on the count of blocks. Assumes nothing.
 use mathlib.Core.Path.{_≡_, refl, sym, ap, _∙_, subst}
 use mathlib.Core.Logic.{_≢_}
 use mathlib.Core.Bool.{Bool, true, false, cond, _||_}

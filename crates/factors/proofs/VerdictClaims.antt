@@ -1,5 +1,6 @@
--- The verdict on proposed ends means what document 01 says: the first end that does not rise, or whose piece is no block, is named; then the last end must be the length (verdict-means). By induction on the ends that are left, with the ends so far known to be fine.
--- An outcome with that meaning is one only (meaning-determines), and a proposal is accepted exactly when it is a factorization (accepted-iff, accepted-factorization). Assumes nothing.
+-- The verdict on proposed ends means what document 01 says: the first end that does not rise, or whose piece is no block, is named; then the last end must be
+-- the length (verdict-means). By induction on the ends that are left, with the ends so far known to be fine. An outcome with that meaning is one only
+-- (meaning-determines), and a proposal is accepted exactly when it is a factorization (accepted-iff, accepted-factorization). Assumes nothing.
 use mathlib.Core.Path.{_≡_, refl, sym, ap, _∙_, subst}
 use mathlib.Core.Logic.{_↔_}
 use mathlib.Core.Bool.{Bool, true, false, cond, _||_}

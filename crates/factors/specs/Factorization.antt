@@ -12,7 +12,8 @@ abbrev pub Chain : (ℕ → ℕ → Type 0) → ℕ → List ℕ → ℕ → Typ
 Chain B i [] m = i ≡ m
 Chain B i (e ∷ es) m = B i e × Chain B e es m
 
--- a split of the first m symbols: "Blocks that join up to the sequence, given by their ends, increasing, the last equal to n. The empty sequence has one split, of 0 blocks."
+-- a split of the first m symbols: "Blocks that join up to the sequence, given by their ends, increasing, the last equal to n. The empty sequence has one split,
+-- of 0 blocks."
 abbrev pub Factorization : (ℕ → ℕ → Type 0) → ℕ → List ℕ → Type 0
 Factorization B m es = Chain B 0 es m
 
@@ -47,7 +48,8 @@ FirstGreater (x ∷ xs) (y ∷ ys) = (y < x) ⊎ ((x ≡ y) × FirstGreater xs y
 abbrev pub LongerFromEnd : List ℕ → List ℕ → Type 0
 LongerFromEnd x y = FirstGreater (reverse (blockLengths 0 x)) (reverse (blockLengths 0 y))
 
--- a factorization of the first m symbols that has the best size s, and wins the tie: "Among splits of the best size, the last block is longest, then the one before it, and so on."
+-- a factorization of the first m symbols that has the best size s, and wins the tie: "Among splits of the best size, the last block is longest, then the one
+-- before it, and so on."
 pub record Best (c : Choice) (B : ℕ → ℕ → Type 0) (m s : ℕ) (es : List ℕ) : Type 0 where
   pub factorization : Factorization B m es
   pub sized : size es ≡ s

@@ -10,9 +10,8 @@ use Rattle.answers.specs.Outcome.{Outcome, accepted, refused, refusal}
 
 -- A test of blocks is told the block's number from 1, the boundary that it starts after and its end.
 
--- the verdict on the ends from block number k + 1 on, which starts after boundary i:
--- "3: an end not above the one before it (0 before the first), or above n. 4: the piece up to this end is not a block. 5: the last end (0 if there are none) is not n."
--- An accepted proposal is answered "with its number of blocks".
+-- the verdict on the ends from block number k + 1 on, which starts after boundary i: "3: an end not above the one before it (0 before the first), or above n.
+-- 4: the piece up to this end is not a block. 5: the last end (0 if there are none) is not n." An accepted proposal is answered "with its number of blocks".
 abbrev pub verdictFrom : (ℕ → ℕ → ℕ → Bool) → ℕ → ℕ → ℕ → List ℕ → Outcome
 verdictFrom block? n k i [] = cond (eqb i n) (accepted (k ∷ [])) (refusal Unfinished)
 verdictFrom block? n k i (e ∷ es) =

@@ -1,5 +1,6 @@
--- What the two calls answer and write means what document 01 says, for every input (write-means, read-means); 11 is answered exactly when the bytes are no line (read-eleven); what was written is read back (round-trip); and an answer of the reader is
--- determined by its numbers. By the order of the tests in the definitions, and the claims of a line. Assumes nothing.
+-- What the two calls answer and write means what document 01 says, for every input (write-means, read-means); 11 is answered exactly when the bytes are no line
+-- (read-eleven); what was written is read back (round-trip); and an answer of the reader is determined by its numbers. By the order of the tests in the
+-- definitions, and the claims of a line. Assumes nothing.
 use mathlib.Core.Path.{_≡_, refl, sym, ap, ap₂, _∙_, subst}
 use mathlib.Core.Logic.{_↔_}
 use mathlib.Core.Bool.{Bool, true, false, cond}

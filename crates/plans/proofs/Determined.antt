@@ -1,5 +1,6 @@
--- The meanings of writing and reading a plan determine the answer and the table (write-determined, read-determined). By cases on the meaning: the verdict has one outcome only (meaning-determines), a line has one n and one list of ends (line-numbers),
--- and the laws of each outcome give what the call answers and leaves. Assumes nothing.
+-- The meanings of writing and reading a plan determine the answer and the table (write-determined, read-determined). By cases on the meaning: the verdict has
+-- one outcome only (meaning-determines), a line has one n and one list of ends (line-numbers), and the laws of each outcome give what the call answers and
+-- leaves. Assumes nothing.
 use mathlib.Core.Path.{_≡_, refl, sym, ap, ap₂, _∙_, subst}
 use mathlib.Core.Bool.{Bool, true, false}
 use mathlib.Core.List.{List, [], _∷_, _++_}

@@ -1,5 +1,6 @@
--- The test of a line says exactly when bytes are one: what is read off the places of a line of n and ends is n and ends (line-is-line, line-numbers), and bytes that pass the test
--- are the line of what is read off them (line-read). So a line has one n and one list of ends (line-unique). By cutting the bytes at the places of the numbers. Assumes nothing.
+-- The test of a line says exactly when bytes are one: what is read off the places of a line of n and ends is n and ends (line-is-line, line-numbers), and bytes
+-- that pass the test are the line of what is read off them (line-read). So a line has one n and one list of ends (line-unique). By cutting the bytes at the
+-- places of the numbers. Assumes nothing.
 use mathlib.Core.Path.{_≡_, refl, sym, ap, ap₂, _∙_, subst}
 use mathlib.Core.Bool.{Bool, true, false, _&&_}
 use mathlib.Core.List.{List, [], _∷_, _++_, append-nil, append-assoc}

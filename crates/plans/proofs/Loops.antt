@@ -1,4 +1,5 @@
--- What the loops of this crate keep, and that each step keeps it: bytes that are stored from a place on, a prefix that is compared, ends that are judged, tested and read one after another. Assumes nothing.
+-- What the loops of this crate keep, and that each step keeps it: bytes that are stored from a place on, a prefix that is compared, ends that are judged,
+-- tested and read one after another. Assumes nothing.
 use mathlib.Core.Path.{_≡_, refl, sym, ap, _∙_, subst}
 use mathlib.Core.Bool.{Bool, true, false, not}
 use mathlib.Core.List.{List, [], _∷_, _++_, append-nil, append-assoc}

@@ -1,5 +1,5 @@
--- The plan line: "It begins with the five bytes plan and a comma, then n, the number of blocks and each end, each number in exactly four digits, parted by commas,
--- then byte 10."
+-- The plan line: "It begins with the five bytes plan and a comma, then n, the number of blocks and each end, each number in exactly four digits, parted by
+-- commas, then byte 10."
 use mathlib.Core.Path.{_≡_}
 use mathlib.Core.Bool.{Bool, true, false, _&&_}
 use mathlib.Core.List.{List, [], _∷_, _++_}

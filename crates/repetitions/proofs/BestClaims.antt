@@ -1,6 +1,6 @@
--- Best split says all of demand 3, for every word, choice and tables: `best-means`. A filled table says for each prefix length whether it has a factorization, and if so
--- the best size (factors/proofs/Optimal.antt); the previous boundaries lead back over the ends that win the tie; and the factorizations of a prefix in place are those that it has as a
--- word of its own. Assumes nothing.
+-- Best split says all of demand 3, for every word, choice and tables: `best-means`. A filled table says for each prefix length whether it has a factorization,
+-- and if so the best size (factors/proofs/Optimal.antt); the previous boundaries lead back over the ends that win the tie; and the factorizations of a prefix
+-- in place are those that it has as a word of its own. Assumes nothing.
 use mathlib.Core.Path.{_≡_, refl, sym, ap, _∙_, subst}
 use mathlib.Core.Logic.{_⊎_, inl, inr}
 use mathlib.Core.Bool.{Bool, cond}

@@ -1,5 +1,5 @@
--- The meanings in the contracts of this crate's calls leave nothing open: only the answer and the tables that the computed definitions give have them. A verdict with
--- its meaning is one only, so is a best factorization, and a factorization has one path. By cases on the meanings. Assumes nothing.
+-- The meanings in the contracts of this crate's calls leave nothing open: only the answer and the tables that the computed definitions give have them. A
+-- verdict with its meaning is one only, so is a best factorization, and a factorization has one path. By cases on the meanings. Assumes nothing.
 use mathlib.Core.Path.{_≡_, sym, ap, ap₂, _∙_, subst}
 use mathlib.Core.Logic.{_⊎_, inl, inr}
 use mathlib.Core.List.{List, [], _∷_, _++_}

@@ -1,6 +1,6 @@
--- The paths of the repetition graph and their encodings, for any turn number k from 2 up. A path between two drops is a segment: a run that encloses the piece, k
--- periods or longer. So a path's encoding is a list of segments, each list of segments is the encoding of a path, and of one only. A segment is a block whose smallest
--- period is the run's, and a block has one segment, since it lies in one run only with its period. Assumes nothing.
+-- The paths of the repetition graph and their encodings, for any turn number k from 2 up. A path between two drops is a segment: a run that encloses the piece,
+-- k periods or longer. So a path's encoding is a list of segments, each list of segments is the encoding of a path, and of one only. A segment is a block whose
+-- smallest period is the run's, and a block has one segment, since it lies in one run only with its period. Assumes nothing.
 use mathlib.Core.Path.{_≡_, refl, sym, ap, ap₂, _∙_, subst, subst₂}
 use mathlib.Core.Bool.{Bool}
 use mathlib.Core.List.{List, [], _∷_}

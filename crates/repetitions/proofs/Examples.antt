@@ -443,8 +443,8 @@ path-unfinished = refl
 
 -- ---- splits that only look best
 
--- "Taking the longest block each time: abaabaababaabaabababa then starts with 19 passes and is called unsplittable": its longest block at the start has 19, what is
--- left is none, and there is a split (`fewest-of-001`)
+-- "Taking the longest block each time: abaabaababaabaabababa then starts with 19 passes and is called unsplittable": its longest block at the start has 19,
+-- what is left is none, and there is a split (`fewest-of-001`)
 pub longest-first-is-19 : block? anyPeriod turns word-abaabaababaabaabababa 0 19 ≡ true
 unfolding repetition? smallestPeriod
 longest-first-is-19 = refl

@@ -1,5 +1,5 @@
--- Laws for filling the working table: the test of a unit, the units in row 2 of the parts after a boundary, the table at the start, after each boundary and at the
--- end. The general part is factors/proofs/Filling.antt; here the blocks are repetitions. Assumes nothing.
+-- Laws for filling the working table: the test of a unit, the units in row 2 of the parts after a boundary, the table at the start, after each boundary and at
+-- the end. The general part is factors/proofs/Filling.antt; here the blocks are repetitions. Assumes nothing.
 use mathlib.Core.Path.{_≡_, refl, sym, ap, _∙_, subst}
 use mathlib.Core.Bool.{true, false}
 use mathlib.Core.List.{List, _++_, append-assoc}

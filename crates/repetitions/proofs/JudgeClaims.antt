@@ -1,5 +1,5 @@
--- Judge a split accepts exactly the factorizations, and names the first fault (split-means), by the verdict's claims (factors/proofs/VerdictClaims.antt). The loops of
--- the judges go by the verdict on the ends that are left. Assumes nothing.
+-- Judge a split accepts exactly the factorizations, and names the first fault (split-means), by the verdict's claims (factors/proofs/VerdictClaims.antt). The
+-- loops of the judges go by the verdict on the ends that are left. Assumes nothing.
 use mathlib.Core.Path.{_≡_, refl, sym, ap, ap₂, _∙_, subst}
 use mathlib.Core.Bool.{Bool}
 use mathlib.Core.List.{List, [], _∷_}

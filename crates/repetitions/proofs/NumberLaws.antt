@@ -1,5 +1,5 @@
--- What the loops of path of a split go by: `leftEnd` goes on to the left one symbol at a time and ends where the block's run starts, so the look-up by that boundary
--- and the block's unit gives its run number; the loop keeps `Numbering`. Assumes nothing.
+-- What the loops of path of a split go by: `leftEnd` goes on to the left one symbol at a time and ends where the block's run starts, so the look-up by that
+-- boundary and the block's unit gives its run number; the loop keeps `Numbering`. Assumes nothing.
 use mathlib.Core.Path.{_≡_, refl, sym, ap, _∙_, subst}
 use mathlib.Core.Logic.{_≢_}
 use mathlib.Core.List.{List, _∷_, _++_}

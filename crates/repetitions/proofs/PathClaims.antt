@@ -1,5 +1,5 @@
--- Path of a split gives the run numbers of the one path that goes with the split (path-means): there is only one run that encloses a block and has its unit, so the
--- first in the table is that run. That run starts where the symbols a unit apart cease to agree to the left (run-starts). Assumes nothing.
+-- Path of a split gives the run numbers of the one path that goes with the split (path-means): there is only one run that encloses a block and has its unit, so
+-- the first in the table is that run. That run starts where the symbols a unit apart cease to agree to the left (run-starts). Assumes nothing.
 use mathlib.Core.Path.{_≡_, refl, sym, ap, _∙_, subst}
 use mathlib.Core.Logic.{_≢_}
 use mathlib.Core.Bool.{Bool, true, false, cond, _&&_}

@@ -1,6 +1,6 @@
--- Judge a path accepts exactly the encodings of the paths of the word's length: the test of a piece decides whether it is a segment of the run with the given number
--- (segment-decides), an accepted proposal is a list of segments and so the encoding of a path (proofs/Encodings.antt), and the verdict says what the first fault is
--- (factors/proofs/VerdictClaims.antt). Assumes nothing.
+-- Judge a path accepts exactly the encodings of the paths of the word's length: the test of a piece decides whether it is a segment of the run with the given
+-- number (segment-decides), an accepted proposal is a list of segments and so the encoding of a path (proofs/Encodings.antt), and the verdict says what the
+-- first fault is (factors/proofs/VerdictClaims.antt). Assumes nothing.
 use mathlib.Core.Path.{_≡_, refl, sym, ap, _∙_, subst}
 use mathlib.Core.Logic.{_↔_}
 use mathlib.Core.Bool.{Bool, true, false, _&&_}

@@ -1,6 +1,6 @@
--- The paths of length t in the repetition graph of a word and the factorizations of its prefix of length t go together one to one, and the weight of a path is the
--- size of its factorization, for any turn number k from 2 up. A path and its encoding go together one to one, a block has one segment, and the prefix has its factorizations
--- in its place. There is no path beyond the end of the word. Assumes nothing.
+-- The paths of length t in the repetition graph of a word and the factorizations of its prefix of length t go together one to one, and the weight of a path is
+-- the size of its factorization, for any turn number k from 2 up. A path and its encoding go together one to one, a block has one segment, and the prefix has
+-- its factorizations in its place. There is no path beyond the end of the word. Assumes nothing.
 use mathlib.Core.Path.{_≡_, refl, sym, ap, _∙_, subst}
 use mathlib.Core.Bool.{Bool}
 use mathlib.Core.List.{List, [], _∷_}

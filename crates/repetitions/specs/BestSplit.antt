@@ -44,8 +44,8 @@ unfoldable pub bestEndsTable : List ℕ → ℕ → List ℕ → List ℕ → Li
 bestEndsTable w choice e t =
     tested w choice (length t) e e e (sizeEnds (lastCell w choice) (bestEnds (choiceOf choice) (block? anyPeriod turns w) (length w)) e)
 
--- "The working table afterwards holds in its first n+1 places the best size of each leading length 0 to n, 4,294,967,295 where none exists; the following 3×(n+1)
--- places hold 0." Also after 2 and 7.
+-- "The working table afterwards holds in its first n+1 places the best size of each leading length 0 to n, 4,294,967,295 where none exists; the following
+-- 3×(n+1) places hold 0." Also after 2 and 7.
 unfoldable pub bestWork : List ℕ → ℕ → List ℕ → List ℕ
 bestWork w choice t =
     tested w choice (length t) t t t
@@ -53,8 +53,8 @@ bestWork w choice t =
 
 -- ---- demand 3
 
--- what is reported of a prefix, taken as a word of its own: "none exactly when it has no split. Otherwise the fewest we report is the size of one of its splits, and
--- every split of it has at least as many blocks; the most we report is the size of one too, and every split of it has at most as many."
+-- what is reported of a prefix, taken as a word of its own: "none exactly when it has no split. Otherwise the fewest we report is the size of one of its
+-- splits, and every split of it has at least as many blocks; the most we report is the size of one too, and every split of it has at most as many."
 pub data Reported (c : Choice) (u : List ℕ) (v : ℕ) : Type 0 where
   unsplittable : v ≡ none → ((es : List ℕ) → Factorization (Block anyPeriod turns u) (length u) es → ⊥) → Reported c u v
   best :

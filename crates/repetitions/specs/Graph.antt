@@ -24,8 +24,8 @@ pub record Diagonal (k : ℕ) (w : List ℕ) (j i x : ℕ) : Type 0 where
   pub numbered : Entry (runsOf w) i run
   pub span : x ≡ j + k * run .period
 
--- "A flat edge of weight 0 goes between white nodes of one run at neighbouring positions, rightward. A drop of weight 0 goes from a white node to the joint at its
--- position."
+-- "A flat edge of weight 0 goes between white nodes of one run at neighbouring positions, rightward. A drop of weight 0 goes from a white node to the joint at
+-- its position."
 abbrev pub Joined : ℕ → List ℕ → Node → Node → Type 0
 Joined k w (black j) (black e) = ⊥
 Joined k w (black j) (white i x) = Diagonal k w j i x
@@ -88,8 +88,8 @@ GoTogether xs ends = drops (black 0) xs ≡ ends
 
 -- ---- a block and its run
 
--- "no run has that number, or the run does not enclose the piece, or the piece is shorter than 2 × the run's unit" is refusal 4 for a path; this is the contrary.
--- The piece goes from boundary i to boundary j.
+-- "no run has that number, or the run does not enclose the piece, or the piece is shorter than 2 × the run's unit" is refusal 4 for a path; this is the
+-- contrary. The piece goes from boundary i to boundary j.
 pub record Segment (allowed : ℕ → Bool) (k : ℕ) (w : List ℕ) (number i j : ℕ) : Type 0 where
   pub run : Row
   pub numbered : Entry (runsOf w) number run

@@ -1,5 +1,5 @@
--- The meaning in the report's contract leaves nothing open: only the answer and the bytes that the computed definitions give have it. The runs are listed in one way
--- only, and a best factorization is one only, so there is one text. By cases on the meaning. Assumes nothing.
+-- The meaning in the report's contract leaves nothing open: only the answer and the bytes that the computed definitions give have it. The runs are listed in
+-- one way only, and a best factorization is one only, so there is one text. By cases on the meaning. Assumes nothing.
 use mathlib.Core.Path.{_≡_, refl, sym, ap, _∙_, subst}
 use mathlib.Core.List.{List, [], _∷_, _++_}
 use Prim.Native.Nat.{ℕ, _≤_}

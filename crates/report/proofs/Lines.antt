@@ -1,5 +1,5 @@
--- The lines of the runs and of the blocks: one more line, and how long they can be; and the finder's record of a block, which is its run. A block has one run that encloses it and
--- has its unit (repetitions/proofs/PathClaims.antt), so that the first record that the finder meets is that run. Assumes nothing.
+-- The lines of the runs and of the blocks: one more line, and how long they can be; and the finder's record of a block, which is its run. A block has one run
+-- that encloses it and has its unit (repetitions/proofs/PathClaims.antt), so that the first record that the finder meets is that run. Assumes nothing.
 use mathlib.Core.Path.{_≡_, refl, sym, ap, ap₂, _∙_, subst}
 use mathlib.Core.Logic.{_≢_}
 use mathlib.Core.Bool.{Bool, true, false, cond}

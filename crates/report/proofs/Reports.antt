@@ -1,5 +1,5 @@
--- The report by its tests, and what it says: `report-means`. The runs call refuses a word that the program holds only if it has more runs than there are records, and else leaves
--- the records of its runs. Assumes nothing.
+-- The report by its tests, and what it says: `report-means`. The runs call refuses a word that the program holds only if it has more runs than there are
+-- records, and else leaves the records of its runs. Assumes nothing.
 use mathlib.Core.Path.{_≡_, refl, sym, ap, _∙_}
 use mathlib.Core.List.{List, [], _∷_, _++_}
 use Prim.Native.Nat.{ℕ, _*_, _≤_, _<_}

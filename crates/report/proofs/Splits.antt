@@ -1,5 +1,5 @@
--- What best split answers of a word that the program holds: 1, 8, 9 and 7 are never met, since a block has two symbols at least; so a refusal says that there is no split, and an
--- answer gives the ends. And how long the text can be. Assumes nothing.
+-- What best split answers of a word that the program holds: 1, 8, 9 and 7 are never met, since a block has two symbols at least; so a refusal says that there
+-- is no split, and an answer gives the ends. And how long the text can be. Assumes nothing.
 use mathlib.Core.Path.{_≡_, refl, sym, ap, _∙_}
 use mathlib.Core.List.{List, [], _∷_, _++_}
 use Prim.Native.Nat.{ℕ, _+_, _-_, _*_, _≤_}

@@ -1,5 +1,5 @@
--- Bytes stored one piece after another: what a writer has stored, and what is left to store. Storing past the end does nothing, so that the laws hold whether there is room or not.
--- And how long the pieces can be. By induction on the lists. Assumes nothing.
+-- Bytes stored one piece after another: what a writer has stored, and what is left to store. Storing past the end does nothing, so that the laws hold whether
+-- there is room or not. And how long the pieces can be. By induction on the lists. Assumes nothing.
 use mathlib.Core.Path.{_≡_, refl, sym, ap, ap₂, _∙_, subst}
 use mathlib.Core.Bool.{Bool, true, false, cond}
 use mathlib.Core.List.{List, [], _∷_, _++_}

@@ -1,5 +1,5 @@
--- The printed text of the bench program: "The lines are passes with n, each run in order, fewest with its size and then its blocks, and most in the same way. Each line ends
--- with byte 10, and its numbers have no leading zeros."
+-- The printed text of the bench program: "The lines are passes with n, each run in order, fewest with its size and then its blocks, and most in the same way.
+-- Each line ends with byte 10, and its numbers have no leading zeros."
 use mathlib.Core.Bool.{Bool, cond}
 use mathlib.Core.List.{List, [], _∷_, _++_}
 use Prim.Native.Nat.{ℕ, suc, _/_, _%_}

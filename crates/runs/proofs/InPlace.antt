@@ -1,6 +1,7 @@
 -- Runs in their place: between the boundaries A and B of a sequence of n symbols `f : ℕ → ℕ`, counted from 0. A piece of a run that is twice its period or
--- longer has that period as its smallest; a run is determined by a piece of it and its period; every part twice its smallest period or longer lies in a run with
--- that period, and in one only (`one-run`). One law does the work: a period q of a piece of p + q symbols of a part with period p is a period of the whole part. Assumes nothing.
+-- longer has that period as its smallest; a run is determined by a piece of it and its period; every part twice its smallest period or longer lies in a run
+-- with that period, and in one only (`one-run`). One law does the work: a period q of a piece of p + q symbols of a part with period p is a period of the whole
+-- part. Assumes nothing.
 use mathlib.Core.Path.{_≡_, refl, sym, ap, _∙_}
 use mathlib.Core.Logic.{_⊎_, inl, inr, _≢_}
 use mathlib.Core.List.{List}

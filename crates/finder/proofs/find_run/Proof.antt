@@ -1,6 +1,6 @@
--- `finder::find_run` meets its contract: a walk of its MIR, by hand. The slice is looked into once, before the loop, and shut once, when the loop is left.
--- A turn takes one record out of the row, copies it, puts it back, takes the copy apart and calls `encloses`, of which the proof knows only that it meets its contract.
--- Assumes nothing.
+-- `finder::find_run` meets its contract: a walk of its MIR, by hand. The slice is looked into once, before the loop, and shut once, when the loop is left. A
+-- turn takes one record out of the row, copies it, puts it back, takes the copy apart and calls `encloses`, of which the proof knows only that it meets its
+-- contract. Assumes nothing.
 use mathlib.Core.Path.{_≡_, refl, sym, _∙_, ap, subst}
 use Prim.Native.Nat.{ℕ, suc, _+_, _-_, _*_, _≤_, _<_, _^_, zero-le}
 use native.Mathlib.Nat.{add-zero, add-suc, zero-add, suc-add, lt-of-le-of-lt}

@@ -1,4 +1,5 @@
--- `periods::smallest_period` meets its contract. The outer loop keeps that no number up to p is a period; the inner one that the pairs below i agree. Assumes nothing.
+-- `periods::smallest_period` meets its contract. The outer loop keeps that no number up to p is a period; the inner one that the pairs below i agree. Assumes
+-- nothing.
 use mathlib.Core.Path.{_≡_, sym}
 use mathlib.Core.List.{List}
 use Prim.Native.Nat.{ℕ, _+_, _-_, _<_, _≤_}

@@ -1,4 +1,5 @@
--- `plans::read_plan` meets its contract: each way out is the case of `readOutcome` that its tests lead to, and `read-means` says what that means. Assumes nothing.
+-- `plans::read_plan` meets its contract: each way out is the case of `readOutcome` that its tests lead to, and `read-means` says what that means. Assumes
+-- nothing.
 use mathlib.Core.Path.{_≡_, sym, ap₂, _∙_, subst}
 use mathlib.Core.List.{[], _∷_, _++_}
 use Prim.Native.Nat.{ℕ}

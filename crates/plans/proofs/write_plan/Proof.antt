@@ -1,4 +1,5 @@
--- `plans::write_plan` meets its contract: each way out is the case of `writeOutcome` that its tests lead to, and `write-means` says what that means. Assumes nothing.
+-- `plans::write_plan` meets its contract: each way out is the case of `writeOutcome` that its tests lead to, and `write-means` says what that means. Assumes
+-- nothing.
 use mathlib.Core.Path.{_≡_, sym, ap, _∙_}
 use mathlib.Core.List.{[], _∷_}
 use Prim.Native.Nat.{ℕ, _≤_}

@@ -1,4 +1,5 @@
--- `repetitions::best_split` meets its contract: each way out is the case of the definitions that its tests lead to, and `best-means` says what that means. Assumes nothing.
+-- `repetitions::best_split` meets its contract: each way out is the case of the definitions that its tests lead to, and `best-means` says what that means.
+-- Assumes nothing.
 use mathlib.Core.Path.{_∙_}
 use mathlib.Core.Logic.{inl, inr}
 use native.Mathlib.Omega.{arith}

@@ -1,4 +1,5 @@
--- `repetitions::judge_path` meets its contract: each way out is the case of `pathJudgedOutcome` that its tests lead to, and `path-judged-means` says what that means. Assumes nothing.
+-- `repetitions::judge_path` meets its contract: each way out is the case of `pathJudgedOutcome` that its tests lead to, and `path-judged-means` says what that
+-- means. Assumes nothing.
 use mathlib.Core.Path.{_∙_}
 use native.Mathlib.Omega.{arith}
 use borrow.Author.Needs.{needs}

@@ -1,5 +1,5 @@
--- `repetitions::path_of_split` meets its contract: each way out is the case of `pathOutcome` that the split's verdict and the test lead to, and `path-means` says what
--- that means. Assumes nothing.
+-- `repetitions::path_of_split` meets its contract: each way out is the case of `pathOutcome` that the split's verdict and the test lead to, and `path-means`
+-- says what that means. Assumes nothing.
 use mathlib.Core.Path.{sym, ap, _∙_}
 use borrow.Author.Needs.{needs}
 use Rattle.answers.specs.Outcome.{countedView, accepted}

@@ -1,4 +1,5 @@
--- `report::report` meets its contract: each way out is the case of the definitions that its tests and the runs call lead to, and `report-means` says what that means. Assumes nothing.
+-- `report::report` meets its contract: each way out is the case of the definitions that its tests and the runs call lead to, and `report-means` says what that
+-- means. Assumes nothing.
 use mathlib.Core.Path.{_≡_, ap, _∙_}
 use Prim.Native.Nat.{ℕ, _*_, _≤_}
 use native.Mathlib.Omega.{arith}

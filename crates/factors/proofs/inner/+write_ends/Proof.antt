@@ -1,4 +1,5 @@
--- write_ends writes the ends of the blocks up to boundary j: the last one is stored, the call below writes those before it, and endsBack is the two together. The boundary falls at each call. Assumes nothing.
+-- write_ends writes the ends of the blocks up to boundary j: the last one is stored, the call below writes those before it, and endsBack is the two together.
+-- The boundary falls at each call. Assumes nothing.
 use mathlib.Core.Path.{_≡_, _∙_}
 use Prim.Native.Nat.{ℕ, _<_}
 use native.Mathlib.Omega.{arith}

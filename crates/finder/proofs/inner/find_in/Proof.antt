@@ -1,6 +1,6 @@
--- `finder::inner::find_in` meets its contract: a walk of its MIR, by hand. The array is copied into a local, which is lent whole by `&` for a lifetime that the walk makes; of that `&[Run]` the first count records are passed on to `find_run`.
--- Once the call has returned, the lifetime is ended, and the local is the function's own again. All that the proof knows of `find_run` is that it meets its contract.
--- Assumes nothing.
+-- `finder::inner::find_in` meets its contract: a walk of its MIR, by hand. The array is copied into a local, which is lent whole by `&` for a lifetime that the
+-- walk makes; of that `&[Run]` the first count records are passed on to `find_run`. Once the call has returned, the lifetime is ended, and the local is the
+-- function's own again. All that the proof knows of `find_run` is that it meets its contract. Assumes nothing.
 use mathlib.Core.Path.{_≡_, refl, sym, ap, subst}
 use Prim.Native.Nat.{ℕ, _≤_, _<_, _^_}
 use mathlib.Core.List.{List, [], _∷_}

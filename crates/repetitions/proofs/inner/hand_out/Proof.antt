@@ -1,4 +1,5 @@
--- `repetitions::inner::hand_out` meets its contract: its tests are those of the definitions, and the ends are those that row 1 leads back over. Assumes nothing.
+-- `repetitions::inner::hand_out` meets its contract: its tests are those of the definitions, and the ends are those that row 1 leads back over. Assumes
+-- nothing.
 use mathlib.Core.Path.{_∙_}
 use native.Mathlib.Omega.{arith}
 use borrow.Author.Needs.{needs}

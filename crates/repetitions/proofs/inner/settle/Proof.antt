@@ -1,4 +1,5 @@
--- `repetitions::inner::settle` meets its contract: the answer is handed out from a filled table, whose row of previous boundaries is then cleared. Assumes nothing.
+-- `repetitions::inner::settle` meets its contract: the answer is handed out from a filled table, whose row of previous boundaries is then cleared. Assumes
+-- nothing.
 use mathlib.Core.Path.{ap, _∙_}
 use native.Mathlib.Omega.{arith}
 use borrow.Author.Needs.{needs}

@@ -1,5 +1,5 @@
--- `repetitions::inner::spread` meets its contract: its loop is the fold `spread`, and where it stops early no later unit is short enough, since units never fall.
--- Assumes nothing.
+-- `repetitions::inner::spread` meets its contract: its loop is the fold `spread`, and where it stops early no later unit is short enough, since units never
+-- fall. Assumes nothing.
 use mathlib.Core.Path.{_≡_, ap, _∙_}
 use mathlib.Core.List.{List}
 use Prim.Native.Nat.{ℕ, _+_, _-_, _<_, _≤_}

@@ -1,4 +1,5 @@
--- `report::inner::block_lines` meets its contract: its loop keeps that the ends that are left join up to the end of the word, and what is left to store. Assumes nothing.
+-- `report::inner::block_lines` meets its contract: its loop keeps that the ends that are left join up to the end of the word, and what is left to store.
+-- Assumes nothing.
 use mathlib.Core.Path.{_≡_, refl, _∙_}
 use mathlib.Core.List.{[]}
 use Prim.Native.Nat.{_+_, _-_, _≤_}

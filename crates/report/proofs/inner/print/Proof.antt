@@ -1,4 +1,5 @@
--- `report::inner::print` meets its contract: the text is counted in no places, and then written where there is room; the finder's records are those of the runs. Assumes nothing.
+-- `report::inner::print` meets its contract: the text is counted in no places, and then written where there is room; the finder's records are those of the
+-- runs. Assumes nothing.
 use mathlib.Core.Path.{_≡_, sym, ap, _∙_}
 use mathlib.Core.List.{List, [], _++_}
 use Prim.Native.Nat.{ℕ}

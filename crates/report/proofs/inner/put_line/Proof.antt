@@ -1,4 +1,5 @@
--- `report::inner::put_line` meets its contract: the name is stored, then the fields by a loop that keeps what is left of them, then the line end. Assumes nothing.
+-- `report::inner::put_line` meets its contract: the name is stored, then the fields by a loop that keeps what is left of them, then the line end. Assumes
+-- nothing.
 use mathlib.Core.Path.{_≡_, refl, _∙_}
 use mathlib.Core.List.{[], _∷_, _++_}
 use Prim.Native.Nat.{_+_, _-_, _≤_}

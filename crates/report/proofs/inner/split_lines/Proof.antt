@@ -1,4 +1,5 @@
--- `report::inner::split_lines` meets its contract: best split can only answer, or say that there is no split; the lines are those of its answer. Assumes nothing.
+-- `report::inner::split_lines` meets its contract: best split can only answer, or say that there is no split; the lines are those of its answer. Assumes
+-- nothing.
 use mathlib.Core.Path.{ap}
 use mathlib.Core.List.{[], _∷_}
 use Prim.Native.Nat.{ℕ, _-_}

@@ -1,4 +1,5 @@
--- `runs::inner::enumerate` meets its contract: its loop keeps that the records of the runs after the boundaries below a are counted and stored. Assumes nothing.
+-- `runs::inner::enumerate` meets its contract: its loop keeps that the records of the runs after the boundaries below a are counted and stored. Assumes
+-- nothing.
 use mathlib.Core.Path.{_≡_, refl, sym, ap, _∙_}
 use Prim.Native.Nat.{_-_, _≤_}
 use native.Mathlib.Omega.{arith}

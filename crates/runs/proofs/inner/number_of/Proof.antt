@@ -1,4 +1,5 @@
--- `runs::inner::number_of` meets its contract: the records in the lent table are the runs after the boundary, and the count at it numbers them. Assumes nothing.
+-- `runs::inner::number_of` meets its contract: the records in the lent table are the runs after the boundary, and the count at it numbers them. Assumes
+-- nothing.
 use mathlib.Core.Path.{_≡_, ap, _∙_}
 use mathlib.Core.List.{List}
 use Prim.Native.Nat.{_-_, _≤_}
