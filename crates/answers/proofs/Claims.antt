@@ -2,6 +2,7 @@
 -- All by computing with the function back from a number to the refusal. Assumes nothing.
 use mathlib.Core.Path.{_≡_, refl, sym, ap, ap₂, _∙_}
 use mathlib.Core.Bool.{Bool, true, cond, _&&_}
+use mathlib.Core.List.{List, [], _∷_}
 use Prim.Native.Nat.{ℕ, zero, suc, _≤_, _<_}
 use native.Mathlib.Omega.{arith}
 use native.Mathlib.Decide.{decLt}
@@ -11,7 +12,7 @@ use Rattle.answers.specs.declared.Counted.{Counted}
 use Rattle.answers.specs.declared.Counted.the-variants.{Count, Refused}
 use Rattle.answers.specs.declared.Refusal.{Refusal}
 use Rattle.answers.specs.declared.Refusal.the-variants.{TooLong, NoFactorization, BadEnd, NotRepetition, Unfinished, BadPosition, TooFewPlaces, BadChoice, ShortTable, OddPath, NotPlan}
-use Rattle.answers.specs.Outcome.{codeOf, refusal, countedView}
+use Rattle.answers.specs.Outcome.{Outcome, accepted, refused, codeOf, refusal, countedView}
 
 -- how many refusals there are
 abbrev pub refusals : ℕ
@@ -94,9 +95,13 @@ index-zero ShortTable a b = refl
 index-zero OddPath a b = refl
 index-zero NotPlan a b = refl
 
+-- nothing is both refused and accepted
+pub refused-accepted : (o : Outcome) (n i : ℕ) (v : List ℕ) → o ≡ refused n i → o ≡ accepted v → ⊥
+refused-accepted o n i v e d = let z : _≡_ {A = ℕ} 0 1 = cc in omega arith
+
 -- an answer that gives one number is determined by what it returns
 pub counted-injective : (x y : Counted) → countedView x ≡ countedView y → x ≡ y
 counted-injective (Count m) (Count n) e = let f : m ≡ n = cc in ap Count f
-counted-injective (Count m) (Refused s) e = absurd (let z : _≡_ {A = ℕ} 0 1 = cc in omega arith)
-counted-injective (Refused r) (Count n) e = absurd (let z : _≡_ {A = ℕ} 0 1 = cc in omega arith)
+counted-injective (Count m) (Refused s) e = absurd (refused-accepted (refusal s) (codeOf s .0) (codeOf s .1) (m ∷ []) refl (sym e))
+counted-injective (Refused r) (Count n) e = absurd (refused-accepted (refusal r) (codeOf r .0) (codeOf r .1) (n ∷ []) refl e)
 counted-injective (Refused r) (Refused s) e = ap Refused (refusal-injective r s e)

@@ -5,6 +5,7 @@ ghost use lib.ListN.{length};
 ghost use Rattle.bench.specs.Line.{lineLength};
 use answers::Counted;
 use decimals::LINE_END;
+use libc::STDERR_FILENO;
 use libc::STDIN_FILENO;
 use libc::STDOUT_FILENO;
 
@@ -48,18 +49,26 @@ fn read_line(buf: &mut [u8]) -> usize
     have
 }
 
+// Writes bytes to standard output. Where that fails, says so on standard error: a program has no
+// exit status to tell it by.
+fn say(bytes: &[u8]) {
+    if !io::write_all(STDOUT_FILENO, bytes) {
+        io::write_all(STDERR_FILENO, b"bench: the report was not written\n");
+    }
+}
+
 // Prints the report of a word; refused,7 alone where it has more runs than the program holds.
 fn print_report(word: &[u8]) {
     let mut out = [0u8; report::LONGEST_REPORT];
     let answer = report::report(word, &mut out);
     match answer {
         Counted::Refused(_) => {
-            io::write_all(STDOUT_FILENO, b"refused,7\n");
+            say(b"refused,7\n");
         }
         Counted::Count(size) => {
             let zero: usize = 0;
             let n = size as usize;
-            io::write_all(STDOUT_FILENO, &out[zero..n]);
+            say(&out[zero..n]);
         }
     }
 }

@@ -2,7 +2,7 @@
 -- leading zeros. By induction on the width, on the bytes, and on how many digits there may be. Assumes nothing.
 use mathlib.Core.Path.{_≡_, refl, sym, ap, ap₂, _∙_, subst}
 use mathlib.Core.Bool.{Bool, true, false, cond}
-use mathlib.Core.List.{List, [], _∷_, _++_, append-nil}
+use mathlib.Core.List.{List, [], _∷_, _++_, append-nil, nil≢cons, cons≢nil, head-eq-of-cons-eq}
 use Prim.Native.Nat.{ℕ, zero, suc, _+_, _-_, _*_, _/_, _%_, _^_, _≤_, _<_}
 use native.Mathlib.Omega.{arith}
 use native.Mathlib.Decide.{decLt}
@@ -99,8 +99,8 @@ unfolding numberIn
 number-some bs x e = go (digits? bs) refl
   where
     go : (t : Bool) → digits? bs ≡ t → (digits? bs ≡ true) × (x ≡ value bs)
-    go true d = (d, let z : x ∷ [] ≡ value bs ∷ [] = e ∙ ap (λ (t : Bool). cond t (value bs ∷ []) []) d in cc)
-    go false d = absurd (let z : x ∷ [] ≡ [] = e ∙ ap (λ (t : Bool). cond t (value bs ∷ []) []) d in let o : _≡_ {A = ℕ} 0 1 = cc in omega arith)
+    go true d = (d, head-eq-of-cons-eq (e ∙ ap (λ (t : Bool). cond t (value bs ∷ []) []) d))
+    go false d = absurd (cons≢nil (e ∙ ap (λ (t : Bool). cond t (value bs ∷ []) []) d))
 
 -- where none is read they are not all digits
 pub number-none : (bs : List ℕ) → [] ≡ numberIn bs → digits? bs ≡ false
@@ -108,7 +108,7 @@ unfolding numberIn
 number-none bs e = go (digits? bs) refl
   where
     go : (t : Bool) → digits? bs ≡ t → digits? bs ≡ false
-    go true d = absurd (let z : [] ≡ value bs ∷ [] = e ∙ ap (λ (t : Bool). cond t (value bs ∷ []) []) d in let o : _≡_ {A = ℕ} 0 1 = cc in omega arith)
+    go true d = absurd (nil≢cons (e ∙ ap (λ (t : Bool). cond t (value bs ∷ []) []) d))
     go false d = d
 
 -- ---- the number of digits

@@ -13,6 +13,7 @@ use lib.ListN.{length, getD, length-append}
 use lib.Seq.{getD-at, append-snoc}
 use borrow.Author.Tests.{le-leb, lt-leb, lt-ltb, le-ltb, eq-eqb, ne-eqb}
 use Rattle.answers.proofs.Tests.{T-true}
+use Rattle.answers.proofs.Claims.{refused-accepted}
 use Rattle.answers.specs.Outcome.{Outcome, accepted, refused}
 use Rattle.factors.specs.Factorization.{Chain, Factorization}
 use Rattle.factors.specs.Verdict.{verdictFrom, verdict, endOf, Rises, IsBlock, FineBefore, VerdictMeaning, bad-end, no-block, unfinished, fine}
@@ -157,9 +158,6 @@ module _ (B : ℕ → ℕ → ℕ → Type 0) (n : ℕ) (ends : List ℕ) where
   meaning-determines (fine F z e) (fine G y d) = e ∙ sym d
 
 -- ---- accepted exactly when it is a factorization
-
-refused-accepted : (o : Outcome) (r x : ℕ) (v : List ℕ) → o ≡ refused r x → o ≡ accepted v → ⊥
-refused-accepted o r x v e d = let z : _≡_ {A = ℕ} 0 1 = cc in omega arith
 
 -- for a test that does not look at the block's number
 module _ (c : ℕ → ℕ → Bool) (C : ℕ → ℕ → Type 0) (to : (i j : ℕ) → T (c i j) → C i j) (of : (i j : ℕ) → C i j → T (c i j)) (n : ℕ) where

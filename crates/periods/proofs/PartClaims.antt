@@ -11,8 +11,8 @@ use borrow.Author.Tests.{lt-ltb, le-ltb}
 use lib.Dec.{T, leb, ltb}
 use lib.ListN.{length}
 use Rattle.answers.proofs.Tests.{and-true, or-true}
-use Rattle.answers.specs.Outcome.{Outcome, accepted, refused, limit}
-use Rattle.answers.proofs.Claims.{refusal-injective}
+use Rattle.answers.specs.Outcome.{Outcome, accepted, refused, refusal, limit}
+use Rattle.answers.proofs.Claims.{refused-accepted, refusal-injective}
 use Rattle.periods.specs.declared.PartAnswer.{PartAnswer}
 use Rattle.periods.specs.declared.PartAnswer.the-variants.{Described, Refused}
 use Rattle.periods.specs.Period.{part, smallestPeriod, repetition?, turns, anyPeriod}
@@ -132,6 +132,6 @@ part-view-injective (Described d) (Described e) p = ap Described (λ i. record {
 
     g : d .repetition ≡ e .repetition
     g = flag-injective (d .repetition) (e .repetition) h
-part-view-injective (Described d) (Refused s) p = absurd (let z : _≡_ {A = ℕ} 0 1 = cc in omega arith)
-part-view-injective (Refused r) (Described e) p = absurd (let z : _≡_ {A = ℕ} 0 1 = cc in omega arith)
+part-view-injective (Described d) (Refused s) p = absurd (refused-accepted (refusal s) _ _ _ refl (sym p))
+part-view-injective (Refused r) (Described e) p = absurd (refused-accepted (refusal r) _ _ _ refl p)
 part-view-injective (Refused r) (Refused s) p = ap Refused (refusal-injective r s p)

@@ -17,7 +17,7 @@ use Rattle.answers.specs.declared.Refusal.the-variants.{TooFewPlaces, NotPlan}
 use Rattle.answers.specs.declared.Counted.{Counted}
 use Rattle.answers.specs.declared.Counted.the-variants.{Count, Refused as Counted-Refused}
 use Rattle.answers.specs.Outcome.{Outcome, accepted, refused, refusal, countedView, limit, unlessRefused, tableUnless}
-use Rattle.answers.proofs.Claims.{refusal-injective}
+use Rattle.answers.proofs.Claims.{refused-accepted, refusal-injective}
 use Rattle.factors.specs.Factorization.{Chain}
 use Rattle.factors.specs.Verdict.{verdict, VerdictMeaning, bad-end, no-block, unfinished, fine}
 use Rattle.factors.proofs.VerdictClaims.{verdict-means, accepted-iff, accepted-length}
@@ -29,9 +29,6 @@ use Rattle.plans.proofs.Loops.{judge-too-long, judge-verdict}
 use Rattle.plans.proofs.LineClaims.{line-numbers, line-is-line, line-read}
 
 -- ---- n and ends that are not refused
-
-refused-accepted : (o : Outcome) (r x : ℕ) (v : List ℕ) → o ≡ refused r x → o ≡ accepted v → ⊥
-refused-accepted o r x v e d = let z : _≡_ {A = ℕ} 0 1 = cc in omega arith
 
 -- an end after another, at most n
 abbrev Up : ℕ → ℕ → ℕ → Type 0
@@ -293,6 +290,6 @@ plan-view-injective (Plan n k) (Plan m j) e =
     let a : n ≡ m = cc in
     let b : k ≡ j = cc in
     ap₂ Plan a b
-plan-view-injective (Plan n k) (Refused s) e = absurd (let z : _≡_ {A = ℕ} 0 1 = cc in omega arith)
-plan-view-injective (Refused r) (Plan m j) e = absurd (let z : _≡_ {A = ℕ} 0 1 = cc in omega arith)
+plan-view-injective (Plan n k) (Refused s) e = absurd (refused-accepted (refusal s) _ _ (n ∷ k ∷ []) refl (sym e))
+plan-view-injective (Refused r) (Plan m j) e = absurd (refused-accepted (refusal r) _ _ (m ∷ j ∷ []) refl e)
 plan-view-injective (Refused r) (Refused s) e = ap Refused (refusal-injective r s e)

@@ -11,6 +11,7 @@ ghost use Rattle.plans.specs.Line.{fields, line, width, numberAt, field?
 ghost use Rattle.plans.specs.Calls.{plausible};
 use crate::COUNT_PLACE;
 use crate::LENGTH_PLACE;
+use crate::PREFIX;
 use crate::SHORTEST;
 use crate::STEP;
 use crate::WIDTH;
@@ -58,7 +59,7 @@ pub fn write_line(n: u32, ends: &[u32], out: &mut [u8])
     ensures { λ _. ⌜ now (out .exit) ≡ sets (now (out .entry)) 0 (line n (now (ends .entry))) ⌝ }
 {
     let count = ends.len();
-    copy(out, b"plan,");
+    copy(out, &PREFIX);
     decimals::inner::write(out, LENGTH_PLACE, WIDTH, n);
     write_field(out, COUNT_PLACE, count as u32);
     write_ends(ends, out);

@@ -11,6 +11,9 @@ use answers::Counted;
 use answers::Refusal;
 use decimals::LINE_END;
 
+// The five bytes that a line begins with.
+pub const PREFIX: [u8; 5] = *b"plan,";
+
 // A line with k ends has SHORTEST + STEP × k bytes; end number k + 1 stands at that place.
 pub const SHORTEST: usize = 15;
 
@@ -101,7 +104,7 @@ fn is_line(s: &[u8]) -> bool
     if len < SHORTEST {
         return false;
     }
-    if !starts(s, b"plan,") {
+    if !starts(s, &PREFIX) {
         return false;
     }
     if !inner::field_at(s, LENGTH_PLACE) {

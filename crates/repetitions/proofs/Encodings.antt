@@ -3,7 +3,7 @@
 -- smallest period is the run's, and a block has one segment, since it lies in one run only with its period. Assumes nothing.
 use mathlib.Core.Path.{_≡_, refl, sym, ap, ap₂, _∙_, subst, subst₂}
 use mathlib.Core.Bool.{Bool}
-use mathlib.Core.List.{List, [], _∷_}
+use mathlib.Core.List.{List, [], _∷_, nil≢cons, head-eq-of-cons-eq, tail-eq-of-cons-eq}
 use Prim.Native.Nat.{ℕ, zero, suc, _+_, _-_, _*_, _≤_}
 use native.Mathlib.Omega.{arith}
 use native.Mathlib.Nat.{mul-le-mul-right}
@@ -21,22 +21,13 @@ use Rattle.repetitions.specs.Block.{Block}
 use Rattle.repetitions.specs.Graph.{Node, black, white, Diagonal, Walk, Path, drops, encoding, runsOfPairs, endsOfPairs, Segment, Segments}
 use Rattle.repetitions.proofs.Blocks.{BlockIn, block-in, block-out}
 
--- ---- nodes and lists
+-- ---- nodes and records
 
 pub white-black : (i x t : ℕ) → white i x ≡ black t → ⊥
 white-black i x t e = let z : _≡_ {A = ℕ} 0 1 = cc in omega arith
 
 black-same : (a b : ℕ) → black a ≡ black b → a ≡ b
 black-same a b e = cc
-
-nil-cons : (e : ℕ) (rest zs : List ℕ) → zs ≡ [] → zs ≡ e ∷ rest → ⊥
-nil-cons e rest zs a b = let z : _≡_ {A = ℕ} 0 1 = cc in omega arith
-
-head-same : (a b : ℕ) (r s : List ℕ) → a ∷ r ≡ b ∷ s → a ≡ b
-head-same a b r s q = cc
-
-tail-same : (a b : ℕ) (r s : List ℕ) → a ∷ r ≡ b ∷ s → r ≡ s
-tail-same a b r s q = cc
 
 row-same : (r s : Row) → r .first ≡ s .first → r .last ≡ s .last → r .period ≡ s .period → r ≡ s
 row-same r s a b c =
@@ -124,15 +115,15 @@ module _ (allowed : ℕ → Bool) (k : ℕ) (w : List ℕ) where
   -- a walk from a joint that goes on has a drop
   goes-on : (t j : ℕ) (u : Node) (xs : List Node) → Walk allowed k w (black j) (u ∷ xs) (black t) → encoding (black j) (u ∷ xs) ≡ [] → ⊥
   goes-on t j (black e) xs v q = v .0 .2
-  goes-on t j (white i x) xs v q = let F = first-drop t xs i x (v .1) in nil-cons i (F .end ∷ F .rest) (encoding (white i x) xs) q (F .is)
+  goes-on t j (white i x) xs v q = let F = first-drop t xs i x (v .1) in nil≢cons (sym q ∙ F .is)
 
   -- a drop at x and a flat edge on from x have different first ends
   drop-flat : (t i x e h y : ℕ) (xs ys : List Node) → Walk allowed k w (white i x) (black e ∷ xs) (black t) → Walk allowed k w (white i x) (white h y ∷ ys) (black t)
       → i ∷ e ∷ encoding (black e) xs ≡ encoding (white h y) ys → ⊥
   drop-flat t i x e h y xs ys v z q =
       let F = first-drop t ys h y (z .1) in
-      let c = tail-same i h (e ∷ encoding (black e) xs) (F .end ∷ F .rest) (q ∙ F .is) in
-      omega (arith, head-same e (F .end) (encoding (black e) xs) (F .rest) c, v .0 .2, z .0 .2 .1, F .from)
+      let c = tail-eq-of-cons-eq (q ∙ F .is) in
+      omega (arith, head-eq-of-cons-eq c, v .0 .2, z .0 .2 .1, F .from)
 
   -- the diagonals from a joint to one run are one
   diagonals : (t j h y g x : ℕ) (xs ys : List Node) → Walk allowed k w (black j) (white h y ∷ xs) (black t) → Walk allowed k w (black j) (white g x ∷ ys) (black t)
@@ -152,7 +143,7 @@ module _ (allowed : ℕ → Bool) (k : ℕ) (w : List ℕ) where
       G = first-drop t ys g x (z .1)
 
       same : h ≡ g
-      same = head-same h g (F .end ∷ F .rest) (G .end ∷ G .rest) (sym (F .is) ∙ q ∙ G .is)
+      same = head-eq-of-cons-eq (sym (F .is) ∙ q ∙ G .is)
 
       one : D .run ≡ E .run
       one = entry-one-row (runsOf w) g (D .run) (E .run) (subst (λ (m : ℕ). Entry (runsOf w) m (D .run)) same (D .numbered)) (E .numbered)
@@ -179,8 +170,8 @@ module _ (allowed : ℕ → Bool) (k : ℕ) (w : List ℕ) where
     λ j v z q. absurd (v .0 .2),
     λ i x v z q.
         let e : a ≡ b = sym (v .0 .2) ∙ z .0 .2 in
-        let c = tail-same i i (a ∷ encoding (black a) xs) (b ∷ encoding (black b) ys) q in
-        let d = tail-same a b (encoding (black a) xs) (encoding (black b) ys) c in
+        let c = tail-eq-of-cons-eq q in
+        let d = tail-eq-of-cons-eq c in
         ap₂ (λ (m : ℕ) (ms : List Node). black m ∷ ms) e
         (one-walk t xs ys .0 b (subst (λ (m : ℕ). Walk allowed k w (black m) xs (black t)) e (v .1)) (z .1)
         (subst (λ (m : ℕ). encoding (black m) xs ≡ encoding (black b) ys) e d)),
@@ -353,12 +344,12 @@ module _ (allowed : ℕ → Bool) (k : ℕ) (w : List ℕ) where
     pub segments-same : (t : ℕ) (ns ms : List ℕ) (i : ℕ) → Segments allowed k w i ns t → Segments allowed k w i ms t → endsOfPairs ns ≡ endsOfPairs ms → ns ≡ ms
     segments-same t [] [] i s z q = refl
     segments-same t [] (m ∷ []) i s z q = absurd z
-    segments-same t [] (m ∷ f ∷ ms) i s z q = absurd (nil-cons f (endsOfPairs ms) (f ∷ endsOfPairs ms) (sym q) refl)
+    segments-same t [] (m ∷ f ∷ ms) i s z q = absurd (nil≢cons q)
     segments-same t (r ∷ []) ms i s z q = absurd s
-    segments-same t (r ∷ e ∷ ns) [] i s z q = absurd (nil-cons e (endsOfPairs ns) (e ∷ endsOfPairs ns) q refl)
+    segments-same t (r ∷ e ∷ ns) [] i s z q = absurd (nil≢cons (sym q))
     segments-same t (r ∷ e ∷ ns) (m ∷ []) i s z q = absurd z
     segments-same t (r ∷ e ∷ ns) (m ∷ f ∷ ms) i s z q =
-        let a : e ≡ f = head-same e f (endsOfPairs ns) (endsOfPairs ms) q in
-        let b : ns ≡ ms = segments-same t ns ms f (subst (λ (x : ℕ). Segments allowed k w x ns t) a (s .1)) (z .1) (tail-same e f (endsOfPairs ns) (endsOfPairs ms) q) in
+        let a : e ≡ f = head-eq-of-cons-eq q in
+        let b : ns ≡ ms = segments-same t ns ms f (subst (λ (x : ℕ). Segments allowed k w x ns t) a (s .1)) (z .1) (tail-eq-of-cons-eq q) in
         let c : r ≡ m = segment-one-number r m i f (subst (λ (x : ℕ). Segment allowed k w r i x) a (s .0)) (z .0) in
         cc (a, b, c)

@@ -2,7 +2,7 @@
 -- boundary and the block's unit gives its run number; the loop keeps `Numbering`. Assumes nothing.
 use mathlib.Core.Path.{_≡_, refl, sym, ap, _∙_, subst}
 use mathlib.Core.Logic.{_≢_}
-use mathlib.Core.List.{List, _∷_, _++_}
+use mathlib.Core.List.{List, _∷_, _++_, head-eq-of-cons-eq, tail-eq-of-cons-eq}
 use Prim.Native.Nat.{ℕ, zero, suc, _+_, _-_, _≤_, _<_}
 use native.Mathlib.Omega.{arith}
 use native.Mathlib.Nat.{zero-add}
@@ -87,12 +87,6 @@ counts-found w t counts e a h =
 written-more : (t ns : List ℕ) (k : ℕ) → k < length t → k < length ns → set (take k ns ++ drop k t) k (getD ns k 0) ≡ take (k + 1) ns ++ drop (k + 1) t
 written-more t ns k h l = rw (add-one k) (rw (zero-add k, zero-add (suc k)) at (paste-suc t 0 ns k 0 (omega arith) l))
 
-heads : (a b : ℕ) (r s : List ℕ) → a ∷ r ≡ b ∷ s → a ≡ b
-heads a b r s q = cc
-
-tails : (a b : ℕ) (r s : List ℕ) → a ∷ r ≡ b ∷ s → r ≡ s
-tails a b r s q = cc
-
 -- k blocks are numbered, up to boundary `before`: the others join up to the word, and the numbers of the first k stand in the table u, which was t
 pub record Numbering (w ends t : List ℕ) (before k : ℕ) (u : List ℕ) : Type 0 where
   pub within : k ≤ length ends
@@ -125,11 +119,11 @@ module _ (w ends t : List ℕ) where
       numbering-more h v e = record {
         within = omega arith;
         chain = rw (add-one k) (next .1);
-        left = rw (add-one k) (tails (getD (runNumbers w 0 ends) k 0) (runNumber w before (getD ends k 0)) (drop (suc k) (runNumbers w 0 ends)) (runNumbers w (getD ends k 0) (drop (suc k) ends)) numbers);
+        left = rw (add-one k) (tail-eq-of-cons-eq numbers);
         written =
             ap (λ (x : List ℕ). set x k v) (N .written)
             ∙ ap (set (take k (runNumbers w 0 ends) ++ drop k t) k)
-            (e ∙ sym (heads (getD (runNumbers w 0 ends) k 0) (runNumber w before (getD ends k 0)) (drop (suc k) (runNumbers w 0 ends)) (runNumbers w (getD ends k 0) (drop (suc k) ends)) numbers))
+            (e ∙ sym (head-eq-of-cons-eq numbers))
             ∙ written-more t (runNumbers w 0 ends) k (omega arith) (omega (arith, length-run-numbers w 0 ends));
       }
 

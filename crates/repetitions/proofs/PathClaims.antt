@@ -11,11 +11,13 @@ use borrow.Author.Tests.{lt-ltb, le-ltb, eq-eqb, ne-eqb}
 use lib.Dec.{T, leb, ltb, eqb, leb→le, le→leb, eqb→eq, eqb-refl, eqb·suc-zero}
 use lib.ListN.{length, drop}
 use Rattle.answers.proofs.Tests.{and-intro, and-left, and-right}
+use Rattle.answers.proofs.Claims.{refused-accepted}
 use Rattle.answers.specs.Outcome.{Outcome, accepted, refused, limit, tableUnless}
 use Rattle.periods.specs.Period.{part, smallestPeriod, anyPeriod, turns}
 use Rattle.periods.proofs.InPlace.{symbol}
 use Rattle.runs.specs.Run.{Row, Entry}
 use Rattle.runs.specs.Table.{runsOf}
+use Rattle.runs.proofs.Entries.{no-entry}
 use Rattle.runs.proofs.InPlace.{RunIn}
 use Rattle.factors.specs.Factorization.{Chain, Factorization}
 use Rattle.factors.specs.Verdict.{VerdictMeaning, bad-end, no-block, unfinished, fine}
@@ -52,10 +54,6 @@ first-sound t (r ∷ rs) i e = go (λ j. first-sound t rs j) (t r) refl e
         → Passes t (r ∷ rs) (suc i)
     go ih true f x = let y : i ≡ 0 = omega arith in rw y record { row = r; entry = refl; passed = subst T (sym f) tt }
     go ih false f x = later (firstNumber t rs) ih x
-
-no-entry : (i : ℕ) (r : Row) → Entry [] i r → ⊥
-no-entry zero r h = h
-no-entry (suc i) r h = h
 
 first-none : (t : Row → Bool) (rows : List Row) → firstNumber t rows ≡ 0 → (i : ℕ) → Passes t rows i → ⊥
 unfolding firstNumber
@@ -176,7 +174,7 @@ module _ (w ends t : List ℕ) where
   accepted-split v e = go (split-means w ends)
     where
       clash : (x i : ℕ) → splitOutcome w ends ≡ refused x i → ⊥
-      clash x i f = let z : _≡_ {A = ℕ} 0 1 = cc in omega arith
+      clash x i f = refused-accepted (splitOutcome w ends) x i v f (sym e)
 
       go : SplitMeaning w ends (splitOutcome w ends) → (length w ≤ limit) × (v ≡ length ends ∷ []) × Factorization (Block anyPeriod turns w) (length w) ends
       go (too-long h f) = absurd (clash 1 0 f)

@@ -4,7 +4,7 @@
 use mathlib.Core.Path.{_≡_, refl, sym, ap, _∙_, subst}
 use mathlib.Core.Logic.{_↔_}
 use mathlib.Core.Bool.{Bool, true, false, _&&_}
-use mathlib.Core.List.{List, [], _∷_}
+use mathlib.Core.List.{List, [], _∷_, nil≢cons}
 use Prim.Native.Nat.{ℕ, zero, suc, _+_, _-_, _*_, _/_, _%_, _≤_, _<_}
 use native.Mathlib.Omega.{arith}
 use native.Mathlib.Decide.{decLt, decLe, ℕ-discrete}
@@ -12,6 +12,7 @@ use borrow.Author.Tests.{lt-ltb, le-ltb, le-leb, lt-leb, eq-eqb, ne-eqb}
 use lib.Dec.{T, leb, leb→le, le→leb}
 use lib.ListN.{length, getD, drop}
 use Rattle.answers.proofs.Tests.{T-true, and-intro, and-left, and-right, and-true}
+use Rattle.answers.proofs.Claims.{refused-accepted}
 use Rattle.answers.specs.Outcome.{Outcome, accepted, refused, limit}
 use Rattle.periods.specs.Period.{anyPeriod, turns}
 use Rattle.runs.specs.Run.{Row, Entry}
@@ -47,13 +48,10 @@ end-given (r ∷ e ∷ ns) (suc k) h = let f : suc k + suc k + 1 ≡ suc (suc (k
 
 -- ---- the test of a piece
 
-no-list : (s : Row) (rest : List Row) → [] ≡ s ∷ rest → ⊥
-no-list s rest e = let z : _≡_ {A = ℕ} 0 1 = cc in omega arith
-
 entry-first : (rows : List Row) (i : ℕ) (s : Row) (rest : List Row) → entryOf rows i ≡ s ∷ rest → Entry rows i s
 unfolding entryOf
-entry-first rows zero s rest e = absurd (no-list s rest e)
-entry-first [] (suc i) s rest e = absurd (no-list s rest e)
+entry-first rows zero s rest e = absurd (nil≢cons e)
+entry-first [] (suc i) s rest e = absurd (nil≢cons e)
 entry-first (x ∷ xs) (suc zero) s rest e = cc
 entry-first (x ∷ xs) (suc (suc i)) s rest e = entry-first xs (suc i) s rest e
 
@@ -118,9 +116,6 @@ module _ (block? : ℕ → ℕ → ℕ → Bool) (n k i : ℕ) (ns : List ℕ) w
 
 -- ---- accepted exactly when the numbers are segments
 
-clash : (o : Outcome) (x y : ℕ) (v : List ℕ) → o ≡ refused x y → o ≡ accepted v → ⊥
-clash o x y v e d = let z : _≡_ {A = ℕ} 0 1 = cc in omega arith
-
 module _ (w : List ℕ) (t : ℕ → ℕ → ℕ → Bool) where
   -- from block number k + 1 on the test goes by the run numbers of ns
   abbrev Agrees : ℕ → List ℕ → Type 0
@@ -142,7 +137,7 @@ module _ (w : List ℕ) (t : ℕ → ℕ → ℕ → Bool) where
     where
       go : Dec (i ≡ length w) → i ≡ length w
       go (yes z) = z
-      go (no z) = absurd (clash _ 5 0 v (verdict-unfinished t (length w) k i z) h)
+      go (no z) = absurd (refused-accepted _ 5 0 v (verdict-unfinished t (length w) k i z) h)
   accepted-segments (r ∷ []) k i v q A h = absurd (omega arith)
   accepted-segments (r ∷ e ∷ ns) k i v q A h =
       go (λ g. accepted-segments ns (suc k) e v (omega arith) (agrees-rest k r e ns A) g) (decLt i e) (decLe e (length w)) (t (suc k) i e) refl
@@ -152,9 +147,9 @@ module _ (w : List ℕ) (t : ℕ → ℕ → ℕ → Bool) where
 
       go : (verdictFrom t (length w) (suc k) e es ≡ accepted v → Segments anyPeriod turns w e ns (length w)) → Dec (i < e) → Dec (e ≤ length w)
           → (b : Bool) → t (suc k) i e ≡ b → Segment anyPeriod turns w r i e × Segments anyPeriod turns w e ns (length w)
-      go ih (no a) d b z = absurd (clash _ 3 (suc k) v (verdict-low t (length w) k i e es (omega arith)) h)
-      go ih (yes a) (no d) b z = absurd (clash _ 3 (suc k) v (verdict-high t (length w) k i e es (omega arith)) h)
-      go ih (yes a) (yes d) false z = absurd (clash _ 4 (suc k) v (verdict-no-block t (length w) k i e es a d z) h)
+      go ih (no a) d b z = absurd (refused-accepted _ 3 (suc k) v (verdict-low t (length w) k i e es (omega arith)) h)
+      go ih (yes a) (no d) b z = absurd (refused-accepted _ 3 (suc k) v (verdict-high t (length w) k i e es (omega arith)) h)
+      go ih (yes a) (yes d) false z = absurd (refused-accepted _ 4 (suc k) v (verdict-no-block t (length w) k i e es a d z) h)
       go ih (yes a) (yes d) true z =
           (agrees-first k r e ns A i e .0 (subst T (sym z) tt), ih (sym (verdict-block t (length w) k i e es a d z) ∙ h))
 

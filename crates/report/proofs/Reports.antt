@@ -8,6 +8,7 @@ use native.Mathlib.Decide.{decLt}
 use borrow.Author.Tests.{lt-ltb, le-ltb}
 use lib.ListN.{length, drop, length-append, length-drop}
 use Rattle.answers.proofs.Stores.{sets-front}
+use Rattle.answers.proofs.Claims.{refused-accepted}
 use Rattle.answers.specs.declared.Counted.{Counted}
 use Rattle.answers.specs.declared.Counted.the-variants.{Count, Refused}
 use Rattle.answers.specs.declared.Refusal.{Refusal}
@@ -42,7 +43,7 @@ module _ (w z : List ℕ) (held : length w ≤ programLimit) (places : length z 
       go f (yes h) = omega arith
       go f (no h) =
           let e : refusal r ≡ accepted (length (runsOf w) ∷ []) = rw (le-ltb limit (length w) (omega arith), le-ltb (length z) (stride * length (runsOf w)) (omega arith)) at f in
-          absurd (let o : _≡_ {A = ℕ} 0 1 = cc in omega arith)
+          absurd (refused-accepted (refusal r) _ _ (length (runsOf w) ∷ []) refl e)
 
   pub runs-counted : (a : Counted) (count : ℕ) → a ≡ Count count → countedView a ≡ runsOutcome w (length z) → (u : List ℕ) → u ≡ runsTable w z
       → (count ≤ recordLimit) × (stride * count ≤ length u) × (records count u ≡ runsOf w)
@@ -52,7 +53,7 @@ module _ (w z : List ℕ) (held : length w ≤ programLimit) (places : length z 
       go : accepted (count ∷ []) ≡ runsOutcome w (length z) → Dec (length z < stride * length (runsOf w)) → (count ≤ recordLimit) × (stride * count ≤ length u) × (records count u ≡ runsOf w)
       go f (yes h) =
           let e : accepted (count ∷ []) ≡ refused 7 0 = rw (le-ltb limit (length w) (omega arith), lt-ltb (length z) (stride * length (runsOf w)) h) at f in
-          absurd (let o : _≡_ {A = ℕ} 0 1 = cc in omega arith)
+          absurd (refused-accepted (refused 7 0) 7 0 (count ∷ []) refl (sym e))
       go f (no h) =
           let e : accepted (count ∷ []) ≡ accepted (length (runsOf w) ∷ []) = rw (le-ltb limit (length w) (omega arith), le-ltb (length z) (stride * length (runsOf w)) (omega arith)) at f in
           let n : count ≡ length (runsOf w) = cc in
@@ -153,6 +154,6 @@ module _ (w t : List ℕ) where
 
 -- an answer of so many bytes has them in the lent table
 pub reported-count : (w t u : List ℕ) (n : ℕ) → ReportMeaning w t (accepted (n ∷ [])) u → n ≤ length t
-reported-count w t u n (too-many-runs a b c d e f) = absurd (let o : _≡_ {A = ℕ} 0 1 = cc in omega arith)
-reported-count w t u n (too-few H s P a e f) = absurd (let o : _≡_ {A = ℕ} 0 1 = cc in omega arith)
+reported-count w t u n (too-many-runs a b c d e f) = absurd (refused-accepted (accepted (n ∷ [])) 7 0 (n ∷ []) e refl)
+reported-count w t u n (too-few H s P a e f) = absurd (refused-accepted (accepted (n ∷ [])) 7 0 (n ∷ []) e refl)
 reported-count w t u n (reported H s P a e f) = let q : n ≡ length s = cc in omega arith

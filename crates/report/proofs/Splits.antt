@@ -11,6 +11,7 @@ use Rattle.answers.specs.declared.Counted.{Counted}
 use Rattle.answers.specs.declared.Counted.the-variants.{Count, Refused}
 use Rattle.answers.specs.declared.Refusal.{Refusal}
 use Rattle.answers.specs.Outcome.{accepted, refusal, countedView}
+use Rattle.answers.proofs.Claims.{refused-accepted}
 use Rattle.periods.specs.Period.{anyPeriod, turns}
 use Rattle.runs.specs.Table.{runsOf}
 use Rattle.factors.specs.Factorization.{Factorization, choiceOf, Cell, unreachable, reached, bestEnds}
@@ -60,7 +61,7 @@ module _ (w : List ℕ) (choice : ℕ) (name e t : List ℕ) (held : length w �
       go (reached s p) A f =
           let k : s ≤ length e = omega (arith, split-half w (endsOf w choice) (A .factorization), A .sized) in
           let z : refusal r ≡ accepted (s ∷ []) = rw (le-ltb (length e) s k) at f in
-          absurd (let o : _≡_ {A = ℕ} 0 1 = cc in omega arith)
+          absurd (refused-accepted (refusal r) _ _ (s ∷ []) refl z)
 
   pub split-counted : (a : Counted) (size : ℕ) → a ≡ Count size → countedView a ≡ bestOutcome w choice e t → (x : List ℕ) → x ≡ bestEndsTable w choice e t → Blocked w choice name size x
   unfolding splitText
@@ -70,7 +71,7 @@ module _ (w : List ℕ) (choice : ℕ) (name e t : List ℕ) (held : length w �
     where
       go : (v : Cell) → lastCell w choice ≡ v → Answers (choiceOf choice) (Block anyPeriod turns w) (length w) v (endsOf w choice) → accepted (size ∷ []) ≡ sizeOutcome v (length e)
           → x ≡ sizeEnds v (endsOf w choice) e → Blocked w choice name size x
-      go unreachable c A f g = absurd (let o : _≡_ {A = ℕ} 0 1 = cc in omega arith)
+      go unreachable c A f g = absurd (refused-accepted (accepted (size ∷ [])) 2 0 (size ∷ []) f refl)
       go (reached s p) c A f g =
           let k : s ≤ length e = omega (arith, split-half w (endsOf w choice) (A .factorization), A .sized) in
           let z : accepted (size ∷ []) ≡ accepted (s ∷ []) = rw (le-ltb (length e) s k) at f in

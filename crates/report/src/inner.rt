@@ -32,6 +32,9 @@ const MOST: u32 = 2;
 // A block has two symbols at least.
 const MOST_BLOCKS: usize = PROGRAM_LIMIT / 2;
 
+// The report of a word that is too long.
+const REFUSED: [u8; 10] = *b"refused,1\n";
+
 // Stores a byte where there is a place for it.
 fn put_byte(out: &mut [u8], at: usize, b: u8) -> usize
     requires { ⌜ at < 2 ^ 32 ⌝ }
@@ -238,10 +241,10 @@ pub fn refuse(out: &mut [u8]) -> Counted
     ensures { λ _. ⌜ now (out .exit) ≡ printedTable refusedText (now (out .entry)) ⌝ }
 {
     let zero: usize = 0;
-    let size = put_text(&mut out[zero..zero], zero, b"refused,1\n");
+    let size = put_text(&mut out[zero..zero], zero, &REFUSED);
     if out.len() < size {
         return Counted::Refused(Refusal::TooFewPlaces);
     }
-    put_text(out, zero, b"refused,1\n");
+    put_text(out, zero, &REFUSED);
     Counted::Count(size as u32)
 }

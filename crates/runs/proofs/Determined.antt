@@ -14,7 +14,7 @@ use Rattle.runs.specs.Run.{Row, Entry, Before, Sorted, Lists}
 use Rattle.runs.specs.Table.{runsOf, stride, flat, nodesAt}
 use Rattle.runs.specs.Calls as calls
 use Rattle.runs.specs.Calls.{runsOutcome, runsTable, RunsMeaning, nodesOutcome, nodesTable, NodesMeaning, Rising, ListsNodes}
-use Rattle.runs.proofs.Entries.{not-before}
+use Rattle.runs.proofs.Entries.{no-entry, not-before}
 use Rattle.runs.proofs.Listed.{runs-listed}
 use Rattle.runs.proofs.CallClaims.{runs-too-long, runs-few, runs-all, listed-nodes, nodes-too-long, nodes-outside, nodes-few, nodes-all}
 
@@ -25,10 +25,6 @@ before-asymmetric r s (inl h) (inl k) = omega arith
 before-asymmetric r s (inl h) (inr k) = omega arith
 before-asymmetric r s (inr h) (inl k) = omega arith
 before-asymmetric r s (inr h) (inr k) = omega arith
-
-no-entry : (i : ℕ) (r : Row) → Entry [] i r → ⊥
-no-entry zero r h = h
-no-entry (suc i) r h = h
 
 -- an entry is the head or an entry of the tail
 entry-head-or-tail : (x : Row) (xs : List Row) (i : ℕ) (r : Row) → Entry (x ∷ xs) i r → (x ≡ r) ⊎ ((j : ℕ) × Entry xs j r)

@@ -8,6 +8,10 @@ use native.Mathlib.Nat.{zero-add}
 use lib.ListN.{length}
 use Rattle.runs.specs.Run.{Row, Entry, Before, Sorted}
 
+pub no-entry : (i : ℕ) (r : Row) → Entry [] i r → ⊥
+no-entry zero r h = h
+no-entry (suc i) r h = h
+
 pub entry-left : (xs ys : List Row) (i : ℕ) (r : Row) → Entry xs i r → Entry (xs ++ ys) i r
 entry-left xs ys zero r h = absurd h
 entry-left [] ys (suc i) r h = absurd h

@@ -5,6 +5,7 @@ use borrow.Author.Needs.{needs}
 use lib.ListN.{replicate}
 use Rattle.answers.specs.declared.Counted.{Counted}
 use Rattle.answers.specs.Outcome.{countedView}
+use Rattle.report.specs.Records.{longestText}
 use Rattle.report.specs.Meaning.{ReportMeaning}
 use Rattle.report.proofs.Reports.{reported-count}
 use Rattle.bench.proofs.print_report.Statement.{statement}
@@ -19,11 +20,11 @@ report-requires c κs = search needs
 enum-told : tie.Need-enum-told
 enum-told c = search needs
 
-slice-aggregate-write-all : tie.Need-slice-aggregate-write-all
-slice-aggregate-write-all c = search needs
+slice-aggregate-say : tie.Need-slice-aggregate-say
+slice-aggregate-say c = search needs
 
-write-all-requires : tie.Need-write-all-requires
-write-all-requires c κs = search needs
+say-requires : tie.Need-say-requires
+say-requires c κs = search needs
 
 enum-known-answer : tie.Need-enum-known-answer
 enum-known-answer c = search needs
@@ -31,25 +32,25 @@ enum-known-answer c = search needs
 cast-n : tie.Need-cast-n
 cast-n c = search needs
 
-sub-write-all : tie.Need-sub-write-all
-sub-write-all c = search needs
+sub-say : tie.Need-sub-say
+sub-say c = search needs
 
-part-write-all-start : tie.Need-part-write-all-start
-part-write-all-start c = search needs
+part-say-start : tie.Need-part-say-start
+part-say-start c = search needs
 
-part-write-all-end : tie.Need-part-write-all-end
-part-write-all-end c =
+part-say-end : tie.Need-part-say-end
+part-say-end c =
     let w = c .before .before .before .before .before .before .before .before .args .word .now in
     let r = c .before .before .before .before .before .report in
     let a = c .before .before .answer .given in
     omega (
       arith,
       r .kept .1 .0,
-      reported-count w (replicate 134198 0) (r .last .1 .0) (a .0 .0) (subst (λ (x : Counted). ReportMeaning w (replicate 134198 0) (countedView x) (r .last .1 .0)) (a .1) (r .ensures .1 .1)),
+      reported-count w (replicate longestText 0) (r .last .1 .0) (a .0 .0) (subst (λ (x : Counted). ReportMeaning w (replicate longestText 0) (countedView x) (r .last .1 .0)) (a .1) (r .ensures .1 .1)),
     )
 
-write-all-requires-2 : tie.Need-write-all-requires-2
-write-all-requires-2 c κs = search needs
+say-requires-2 : tie.Need-say-requires-2
+say-requires-2 c κs = search needs
 
 returns : tie.Need-returns
 returns c = search needs
@@ -64,13 +65,13 @@ print-report-spec =
     slice-aggregate-report
     report-requires
     enum-told
-    slice-aggregate-write-all
-    write-all-requires
+    slice-aggregate-say
+    say-requires
     enum-known-answer
     cast-n
-    sub-write-all
-    part-write-all-start
-    part-write-all-end
-    write-all-requires-2
+    sub-say
+    part-say-start
+    part-say-end
+    say-requires-2
     returns
     returns-2)
