@@ -24,7 +24,7 @@ use Rattle.repetitions.specs.Block.{Block}
 use Rattle.repetitions.specs.Judges.{encloses?, firstNumber, runNumber}
 use Rattle.repetitions.proofs.Blocks.{block-up}
 use Rattle.repetitions.proofs.PathClaims.{run-number-segment}
-use Rattle.report.specs.Records.{held, heldRows}
+use Rattle.report.specs.Records.{held, heldRows, runBytes, blockBytes}
 use Rattle.report.specs.Text.{runName, blockName, line, runLines, blockLine, blockLines}
 use Rattle.report.proofs.Stores.{line-long}
 
@@ -50,7 +50,7 @@ run-lines-more t i =
     ∙ sym (run-lines-snoc (records i t) (recordAt t i) 0)
     ∙ ap (runLines 0) (sym (records-more t i))
 
-pub run-lines-long : (rows : List Row) (i : ℕ) → length (runLines i rows) ≤ 48 * length rows
+pub run-lines-long : (rows : List Row) (i : ℕ) → length (runLines i rows) ≤ runBytes * length rows
 unfolding runLines
 run-lines-long [] i = omega arith
 run-lines-long (r ∷ rows) i =
@@ -75,11 +75,11 @@ block-unit w i j unit K e =
     let S = smallest-period-is (part w i j) (omega arith) in
     (omega (arith, S .period .positive), omega (arith, S .period .fits), K .0)
 
-block-line-long : (w : List ℕ) (number i j : ℕ) → length (blockLine w number i j) ≤ 83
+block-line-long : (w : List ℕ) (number i j : ℕ) → length (blockLine w number i j) ≤ blockBytes
 unfolding blockLine
 block-line-long w number i j = line-long blockName _
 
-pub block-lines-long : (w es : List ℕ) (k i : ℕ) → length (blockLines w k i es) ≤ 83 * length es
+pub block-lines-long : (w es : List ℕ) (k i : ℕ) → length (blockLines w k i es) ≤ blockBytes * length es
 unfolding blockLines
 block-lines-long w [] k i = omega arith
 block-lines-long w (e ∷ es) k i =

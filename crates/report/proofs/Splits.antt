@@ -23,13 +23,9 @@ use Rattle.repetitions.proofs.Blocks.{half}
 use Rattle.repetitions.proofs.BestClaims.{word-answers, promised-settled}
 use Rattle.finder.specs.Find.{recordLimit}
 use Rattle.report.specs.Text.{programLimit, passesName, fewestName, mostName, noneText, line, runLines, blockLines, splitLines, splitText, text}
-use Rattle.report.specs.Records.{longestText}
+use Rattle.report.specs.Records.{mostBlocks, splitBytes, longestText}
 use Rattle.report.proofs.Stores.{line-long}
 use Rattle.report.proofs.Lines.{run-lines-long, block-lines-long}
-
--- as many places as there can be blocks
-abbrev pub mostBlocks : ℕ
-mostBlocks = 512
 
 -- the ends of the best split
 abbrev pub endsOf : List ℕ → ℕ → List ℕ
@@ -92,11 +88,11 @@ pub text-is : (w : List ℕ) → length w ≤ programLimit
 unfolding text
 text-is w h = rw (le-ltb programLimit (length w) h) refl
 
-pub split-long : (w : List ℕ) (choice : ℕ) (name : List ℕ) → length w ≤ programLimit → length name ≤ 6 → length (splitText w choice name) ≤ 42514
+pub split-long : (w : List ℕ) (choice : ℕ) (name : List ℕ) → length w ≤ programLimit → length name ≤ 6 → length (splitText w choice name) ≤ splitBytes
 unfolding splitText
 split-long w choice name h k = go (lastCell w choice) (word-answers (choiceOf choice) w (length w))
   where
-    go : (v : Cell) → Answers (choiceOf choice) (Block anyPeriod turns w) (length w) v (endsOf w choice) → length (splitLines w name v (endsOf w choice)) ≤ 42514
+    go : (v : Cell) → Answers (choiceOf choice) (Block anyPeriod turns w) (length w) v (endsOf w choice) → length (splitLines w name v (endsOf w choice)) ≤ splitBytes
     go unreachable A = omega (arith, length-append name noneText)
     go (reached s p) A =
         omega (

@@ -13,7 +13,7 @@ use answers::Refusal;
 // The longest word that the bench program takes.
 pub const PROGRAM_LIMIT: usize = 1024;
 
-// No report has more bytes.
+// No report has more bytes: longestText of specs/Records.antt.
 pub const LONGEST_REPORT: usize = 134198;
 
 // The report of a word: the text that the bench program prints, and the count of its bytes. It
