@@ -1,7 +1,8 @@
 -- `repetitions::judge_split` meets its contract: its loop keeps that the verdict on the ends that are left is the verdict on all. Assumes nothing.
 use mathlib.Core.Path.{_≡_, sym, ap, _∙_}
-use mathlib.Core.Bool.{Bool}
-use Prim.Native.Nat.{ℕ, _+_, _-_, _*_, _≤_}
+use mathlib.Core.Bool.{Bool, true, false}
+use mathlib.Core.List.{List, [], _∷_}
+use Prim.Native.Nat.{ℕ, _+_, _-_, _*_, _≤_, _<_}
 use native.Mathlib.Omega.{arith}
 use native.Mathlib.Numerals.{add-one}
 use borrow.Author.Needs.{needs}
@@ -24,8 +25,36 @@ Inv-loop w ends n before₀ k₀ before k = (k ≤ before) × (before ≤ n) × 
 abbrev μ-loop : tie.MeasureT-loop
 μ-loop w ends n before₀ k₀ before k = length ends - k
 
+-- in a turn of the loop: the arguments, the test of a piece, the next end and those after it
+abbrev Turn : Type 0
+Turn = tie.At-loop Inv-loop μ-loop
+
+abbrev word : Turn → List ℕ
+word c = c .before .before .before .before .args .w .now
+
+abbrev ends-given : Turn → List ℕ
+ends-given c = c .before .before .before .before .args .ends .now
+
+abbrev test : Turn → ℕ → ℕ → ℕ → Bool
+test c m = block? anyPeriod turns (word c)
+
+abbrev end : Turn → ℕ
+end c = getD (ends-given c) (c .loop .k) 0
+
+abbrev rest : Turn → List ℕ
+rest c = drop (c .loop .k + 1) (ends-given c)
+
+-- the verdict on the ends that are left is the answer
+next : (c : Turn) → c .loop .k < length (ends-given c) → verdictFrom (test c) (length (word c)) (c .loop .k) (c .loop .before) (end c ∷ rest c) ≡ splitOutcome (word c) (ends-given c)
+next c h = sym (verdict-more (test c) (length (word c)) (c .loop .k) (c .loop .before) (ends-given c) h) ∙ c .loop .inv .3
+
+none-left : (c : Turn) → length (ends-given c) ≤ c .loop .k → verdictFrom (test c) (length (word c)) (c .loop .k) (c .loop .before) [] ≡ splitOutcome (word c) (ends-given c)
+none-left c h = sym (verdict-none-left (test c) (length (word c)) (c .loop .k) (c .loop .before) (ends-given c) h) ∙ c .loop .inv .3
+
 returns : tie.Need-returns Inv-loop μ-loop
-returns c = split-answered (c .before .before .before .args .w .now) (c .before .before .before .args .ends .now) _ (split-too-long (c .before .before .before .args .w .now) (c .before .before .before .args .ends .now) (c .if1 .taken))
+returns c =
+    let g = c .before .before .before .args in
+    split-answered (g .w .now) (g .ends .now) _ (split-too-long (g .w .now) (g .ends .now) (c .if1 .taken))
 
 loop-holds : tie.Need-loop-holds Inv-loop μ-loop
 loop-holds c =
@@ -49,25 +78,17 @@ cast-number c = omega arith
 
 returns-2 : tie.Need-returns-2 Inv-loop μ-loop
 returns-2 c =
-    let g = c .before .before .before .before .before .before .before .args in
-    let l = c .before .before .before .loop in
-    let B : ℕ → ℕ → ℕ → Bool = λ m. block? anyPeriod turns (g .w .now) in
-    split-answered (g .w .now) (g .ends .now) _
-    (ap (refused 3) (add-one (l .k))
-    ∙ sym (verdict-low B (length (g .w .now)) (l .k) (l .before) (getD (g .ends .now) (l .k) 0) (drop (l .k + 1) (g .ends .now)) (c .if2 .taken))
-    ∙ sym (verdict-more B (length (g .w .now)) (l .k) (l .before) (g .ends .now) (omega arith))
-    ∙ l .inv .3)
+    let t = c .before .before .before in
+    let l = t .loop in
+    split-answered (word t) (ends-given t) _
+    (ap (refused 3) (add-one (l .k)) ∙ sym (verdict-low (test t) (length (word t)) (l .k) (l .before) (end t) (rest t) (c .if2 .taken)) ∙ next t (omega arith))
 
 returns-3 : tie.Need-returns-3 Inv-loop μ-loop
 returns-3 c =
-    let g = c .before .before .before .before .before .before .before .before .args in
-    let l = c .before .before .before .before .loop in
-    let B : ℕ → ℕ → ℕ → Bool = λ m. block? anyPeriod turns (g .w .now) in
-    split-answered (g .w .now) (g .ends .now) _
-    (ap (refused 3) (add-one (l .k))
-    ∙ sym (verdict-high B (length (g .w .now)) (l .k) (l .before) (getD (g .ends .now) (l .k) 0) (drop (l .k + 1) (g .ends .now)) (c .if3 .taken))
-    ∙ sym (verdict-more B (length (g .w .now)) (l .k) (l .before) (g .ends .now) (omega arith))
-    ∙ l .inv .3)
+    let t = c .before .before .before .before in
+    let l = t .loop in
+    split-answered (word t) (ends-given t) _
+    (ap (refused 3) (add-one (l .k)) ∙ sym (verdict-high (test t) (length (word t)) (l .k) (l .before) (end t) (rest t) (c .if3 .taken)) ∙ next t (omega arith))
 
 sub-smallest-period : tie.Need-sub-smallest-period Inv-loop μ-loop
 sub-smallest-period c = omega arith
@@ -85,18 +106,19 @@ sub-if4 : tie.Need-sub-if4 Inv-loop μ-loop
 sub-if4 c = omega arith
 
 mul-if4 : tie.Need-mul-if4 Inv-loop μ-loop
-mul-if4 c = omega (arith, c .smallest-period .ensures, part-smallest (c .before .before .before .before .before .before .before .before .before .before .args .w .now) (c .before .before .before .before .before .before .loop .before) (getD (c .before .before .before .before .before .before .before .before .before .before .args .ends .now) (c .before .before .before .before .before .before .loop .k) 0) (omega arith) (omega arith) .period .fits)
+mul-if4 c =
+    let t = c .before .before .before .before .before .before in
+    omega (arith, c .smallest-period .ensures, part-smallest (word t) (t .loop .before) (end t) (omega arith) (omega arith) .period .fits)
 
 returns-4 : tie.Need-returns-4 Inv-loop μ-loop
 returns-4 c =
-    let g = c .before .before .before .before .before .before .before .before .before .before .before .args in
-    let l = c .before .before .before .before .before .before .before .loop in
-    let B : ℕ → ℕ → ℕ → Bool = λ m. block? anyPeriod turns (g .w .now) in
-    split-answered (g .w .now) (g .ends .now) _
-    (ap (refused 4) (add-one (l .k))
-    ∙ sym (verdict-no-block B (length (g .w .now)) (l .k) (l .before) (getD (g .ends .now) (l .k) 0) (drop (l .k + 1) (g .ends .now)) (omega arith) (omega arith) (block-test (g .w .now) (l .before) (getD (g .ends .now) (l .k) 0) (c .before .smallest-period .result) (omega arith) (omega arith) (c .before .smallest-period .ensures) ∙ lt-leb (turns * c .before .smallest-period .result) (getD (g .ends .now) (l .k) 0 - l .before) (c .if4 .taken)))
-    ∙ sym (verdict-more B (length (g .w .now)) (l .k) (l .before) (g .ends .now) (omega arith))
-    ∙ l .inv .3)
+    let t = c .before .before .before .before .before .before .before in
+    let l = t .loop in
+    let u = c .before .smallest-period in
+    let no : test t (l .k) (l .before) (end t) ≡ false =
+    block-test (word t) (l .before) (end t) (u .result) (omega arith) (omega arith) (u .ensures) ∙ lt-leb (turns * u .result) (end t - l .before) (c .if4 .taken) in
+    split-answered (word t) (ends-given t) _
+    (ap (refused 4) (add-one (l .k)) ∙ sym (verdict-no-block (test t) (length (word t)) (l .k) (l .before) (end t) (rest t) (omega arith) (omega arith) no) ∙ next t (omega arith))
 
 add-k : tie.Need-add-k Inv-loop μ-loop
 add-k c = omega arith
@@ -106,42 +128,33 @@ loop-less c = omega arith
 
 loop-again : tie.Need-loop-again Inv-loop μ-loop
 loop-again c =
-    let g = c .before .before .before .before .before .before .before .before .before .before .before .args in
-    let l = c .before .before .before .before .before .before .before .loop in
-    let B : ℕ → ℕ → ℕ → Bool = λ m. block? anyPeriod turns (g .w .now) in (
+    let t = c .before .before .before .before .before .before .before in
+    let l = t .loop in
+    let u = c .before .smallest-period in
+    let yes-block : test t (l .k) (l .before) (end t) ≡ true =
+    block-test (word t) (l .before) (end t) (u .result) (omega arith) (omega arith) (u .ensures) ∙ le-leb (turns * u .result) (end t - l .before) (c .if4 .left) in (
       omega arith,
       omega arith,
       omega arith,
-      ap (λ (x : ℕ). verdictFrom B (length (g .w .now)) x (getD (g .ends .now) (l .k) 0) (drop (l .k + 1) (g .ends .now))) (add-one (l .k))
-          ∙ sym (verdict-block B (length (g .w .now)) (l .k) (l .before) (getD (g .ends .now) (l .k) 0) (drop (l .k + 1) (g .ends .now)) (omega arith) (omega arith)
-          (block-test (g .w .now) (l .before) (getD (g .ends .now) (l .k) 0) (c .before .smallest-period .result) (omega arith) (omega arith) (c .before .smallest-period .ensures)
-          ∙ le-leb (turns * c .before .smallest-period .result) (getD (g .ends .now) (l .k) 0 - l .before) (c .if4 .left)))
-          ∙ sym (verdict-more B (length (g .w .now)) (l .k) (l .before) (g .ends .now) (omega arith))
-          ∙ l .inv .3,
+      ap (λ (x : ℕ). verdictFrom (test t) (length (word t)) x (end t) (rest t)) (add-one (l .k))
+          ∙ sym (verdict-block (test t) (length (word t)) (l .k) (l .before) (end t) (rest t) (omega arith) (omega arith) yes-block)
+          ∙ next t (omega arith),
     )
 
 returns-5 : tie.Need-returns-5 Inv-loop μ-loop
 returns-5 c =
-    let g = c .before .before .before .before .before .before .args in
-    let l = c .before .before .loop in
-    let B : ℕ → ℕ → ℕ → Bool = λ m. block? anyPeriod turns (g .w .now) in
-    split-answered (g .w .now) (g .ends .now) _
-    (sym (verdict-unfinished B (length (g .w .now)) (l .k) (l .before) (c .if5 .taken))
-    ∙ sym (verdict-none-left B (length (g .w .now)) (l .k) (l .before) (g .ends .now) (omega arith))
-    ∙ l .inv .3)
+    let t = c .before .before in
+    split-answered (word t) (ends-given t) _
+    (sym (verdict-unfinished (test t) (length (word t)) (t .loop .k) (t .loop .before) (c .if5 .taken)) ∙ none-left t (omega arith))
 
 cast-t23 : tie.Need-cast-t23 Inv-loop μ-loop
 cast-t23 c = omega arith
 
 returns-6 : tie.Need-returns-6 Inv-loop μ-loop
 returns-6 c =
-    let g = c .before .before .before .before .before .before .args in
-    let l = c .before .before .loop in
-    let B : ℕ → ℕ → ℕ → Bool = λ m. block? anyPeriod turns (g .w .now) in
-    split-answered (g .w .now) (g .ends .now) _
-    (sym (verdict-finished B (length (g .w .now)) (l .k) (l .before) (c .if5 .left))
-    ∙ sym (verdict-none-left B (length (g .w .now)) (l .k) (l .before) (g .ends .now) (omega arith))
-    ∙ l .inv .3)
+    let t = c .before .before in
+    split-answered (word t) (ends-given t) _
+    (sym (verdict-finished (test t) (length (word t)) (t .loop .k) (t .loop .before) (c .if5 .left)) ∙ none-left t (omega arith))
 
 pub judge-split-spec : {M : Type 1} → statement M
 judge-split-spec =

@@ -1,8 +1,8 @@
 -- `runs::nodes` meets its contract: each way out is the case of `nodesOutcome` that its tests lead to, and `nodes-mean` says what that means. The first call of
 -- `nodes_at` has no places to write to and only counts. Assumes nothing.
 use mathlib.Core.Path.{_≡_, ap}
-use mathlib.Core.List.{_++_}
-use Prim.Native.Nat.{_*_, _≤_}
+use mathlib.Core.List.{List, _++_}
+use Prim.Native.Nat.{ℕ, _*_, _≤_}
 use native.Mathlib.Omega.{arith}
 use borrow.Author.Needs.{needs}
 use lib.ListN.{length}
@@ -15,17 +15,26 @@ use Rattle.runs.proofs.CallClaims.{nodes-too-long, nodes-outside, nodes
 use Rattle.runs.proofs.nodes.Statement.{statement}
 use Rattle.runs.proofs.nodes.Tie as tie
 
--- the count stays small
-count-most : (c : tie.After-nodes-at) → c .nodes-at .result ≤ limit * limit
-count-most c =
-    let g = c .before .before .before .before .before .before .before .before .before .args in
-    omega (arith, c .nodes-at .ensures .0, nodes-at-most (g .w .now) (g .position), runs-at-most (g .w .now) (omega arith))
+-- once the nodes are counted: the word, the position and the lent table
+abbrev Counted : Type 0
+Counted = tie.After-nodes-at
 
--- the table is as it was after the nodes were counted
-table-kept : (c : tie.After-nodes-at) → c .nodes-at .last .1 .1 .1 .1 .0 ++ c .before .before .before .before .before .before .before .before .before .args .table .now ≡ c .before .before .before .before .before .before .before .before .before .args .table .now
-table-kept c =
-    let g = c .before .before .before .before .before .before .before .before .before .args in
-    stored-nowhere (g .table .now) _ (nodesAt anyPeriod turns (g .w .now) (g .position)) 0 (c .nodes-at .ensures .1 .0)
+abbrev word : Counted → List ℕ
+word c = c .before .before .before .before .before .before .before .before .before .args .w .now
+
+abbrev position-given : Counted → ℕ
+position-given c = c .before .before .before .before .before .before .before .before .before .args .position
+
+abbrev table-lent : Counted → List ℕ
+table-lent c = c .before .before .before .before .before .before .before .before .before .args .table .now
+
+-- the count stays small
+count-most : (c : Counted) → c .nodes-at .result ≤ limit * limit
+count-most c = omega (arith, c .nodes-at .ensures .0, nodes-at-most (word c) (position-given c), runs-at-most (word c) (omega arith))
+
+-- the table is as it was
+table-kept : (c : Counted) → c .nodes-at .last .1 .1 .1 .1 .0 ++ table-lent c ≡ table-lent c
+table-kept c = stored-nowhere (table-lent c) _ (nodesAt anyPeriod turns (word c) (position-given c)) 0 (c .nodes-at .ensures .1 .0)
 
 returns : tie.Need-returns
 returns c =
@@ -68,10 +77,11 @@ same-length c = search needs
 
 returns-4 : tie.Need-returns-4
 returns-4 c =
-    let g = c .before .before .before .before .before .before .before .before .before .before .before .before .before .before .args in
-    nodes-answered (g .w .now) (g .position) (g .table .now) _ _
-    (nodes-too-few (g .w .now) (g .position) (g .table .now) _ (c .before .before .before .before .before .nodes-at .result) (omega arith) (omega arith, omega arith) (c .before .before .before .before .before .nodes-at .ensures .0) (table-kept (c .before .before .before .before .before))
-    (omega (arith, c .if4 .taken, ap length (table-kept (c .before .before .before .before .before)))))
+    let k = c .before .before .before .before .before in
+    let e = k .nodes-at in
+    nodes-answered (word k) (position-given k) (table-lent k) _ _
+    (nodes-too-few (word k) (position-given k) (table-lent k) _ (e .result) (omega arith) (omega arith, omega arith) (e .ensures .0) (table-kept k)
+    (omega (arith, c .if4 .taken, ap length (table-kept k))))
 
 slice-aggregate-nodes-at-3 : tie.Need-slice-aggregate-nodes-at-3
 slice-aggregate-nodes-at-3 c = search needs
@@ -90,10 +100,11 @@ same-length-2 c = search needs
 
 returns-5 : tie.Need-returns-5
 returns-5 c =
-    let g = c .before .before .before .before .before .before .before .before .before .before .before .before .before .before .before .before .before .before .before .before .before .before .args in
-    nodes-answered (g .w .now) (g .position) (g .table .now) _ _
-    (nodes-written (g .w .now) (g .position) (g .table .now) _ _ (c .before .before .before .before .before .before .before .before .before .before .before .before .before .nodes-at .result) (omega arith) (omega arith, omega arith) (c .before .before .before .before .before .before .before .before .before .before .before .before .before .nodes-at .ensures .0) (table-kept (c .before .before .before .before .before .before .before .before .before .before .before .before .before))
-    (omega (arith, c .before .before .before .before .before .before .before .before .if4 .left, ap length (table-kept (c .before .before .before .before .before .before .before .before .before .before .before .before .before)))) (c .before .before .before .before .nodes-at2 .ensures .1 .0))
+    let k = c .before .before .before .before .before .before .before .before .before .before .before .before .before in
+    let e = k .nodes-at in
+    nodes-answered (word k) (position-given k) (table-lent k) _ _
+    (nodes-written (word k) (position-given k) (table-lent k) _ _ (e .result) (omega arith) (omega arith, omega arith) (e .ensures .0) (table-kept k)
+    (omega (arith, c .before .before .before .before .before .before .before .before .if4 .left, ap length (table-kept k))) (c .before .before .before .before .nodes-at2 .ensures .1 .0))
 
 pub nodes-spec : {M : Type 1} → statement M
 nodes-spec =

@@ -1,8 +1,8 @@
 -- `runs::runs` meets its contract: each way out is the case of `runsOutcome` that its tests lead to, and `runs-mean` says what that means. The first call of
 -- `enumerate` has no places to write to and only counts. Assumes nothing.
 use mathlib.Core.Path.{_≡_, ap}
-use mathlib.Core.List.{_++_}
-use Prim.Native.Nat.{_*_, _≤_}
+use mathlib.Core.List.{List, _++_}
+use Prim.Native.Nat.{ℕ, _*_, _≤_}
 use native.Mathlib.Omega.{arith}
 use borrow.Author.Needs.{needs}
 use lib.ListN.{length}
@@ -13,13 +13,23 @@ use Rattle.runs.proofs.CallClaims.{runs-too-long, runs-too-few, runs-wr
 use Rattle.runs.proofs.runs.Statement.{statement}
 use Rattle.runs.proofs.runs.Tie as tie
 
--- the count stays small
-count-most : (c : tie.After-enumerate) → c .enumerate .result ≤ limit * limit
-count-most c = omega (arith, c .enumerate .ensures .0, runs-at-most (c .before .before .before .before .before .before .args .w .now) (omega arith))
+-- once the runs are counted: the word and the lent table
+abbrev Counted : Type 0
+Counted = tie.After-enumerate
 
--- the table is as it was after the runs were counted
-table-kept : (c : tie.After-enumerate) → c .enumerate .last .1 .1 .0 ++ c .before .before .before .before .before .before .args .table .now ≡ c .before .before .before .before .before .before .args .table .now
-table-kept c = stored-nowhere (c .before .before .before .before .before .before .args .table .now) _ (flat (runsOf (c .before .before .before .before .before .before .args .w .now))) 0 (c .enumerate .ensures .1 .0)
+abbrev word : Counted → List ℕ
+word c = c .before .before .before .before .before .before .args .w .now
+
+abbrev table-lent : Counted → List ℕ
+table-lent c = c .before .before .before .before .before .before .args .table .now
+
+-- the count stays small
+count-most : (c : Counted) → c .enumerate .result ≤ limit * limit
+count-most c = omega (arith, c .enumerate .ensures .0, runs-at-most (word c) (omega arith))
+
+-- the table is as it was
+table-kept : (c : Counted) → c .enumerate .last .1 .1 .0 ++ table-lent c ≡ table-lent c
+table-kept c = stored-nowhere (table-lent c) _ (flat (runsOf (word c))) 0 (c .enumerate .ensures .1 .0)
 
 returns : tie.Need-returns
 returns c =
@@ -52,9 +62,10 @@ same-length c = search needs
 
 returns-2 : tie.Need-returns-2
 returns-2 c =
-    let g = c .before .before .before .before .before .before .before .before .before .before .args in
-    runs-answered (g .w .now) (g .table .now) _ _
-    (runs-too-few (g .w .now) (g .table .now) _ (c .before .before .before .before .enumerate .result) (omega arith) (c .before .before .before .before .enumerate .ensures .0) (table-kept (c .before .before .before .before)) (omega (arith, c .if2 .taken, ap length (table-kept (c .before .before .before .before)))))
+    let k = c .before .before .before .before in
+    let e = k .enumerate in
+    runs-answered (word k) (table-lent k) _ _
+    (runs-too-few (word k) (table-lent k) _ (e .result) (omega arith) (e .ensures .0) (table-kept k) (omega (arith, c .if2 .taken, ap length (table-kept k))))
 
 slice-aggregate-enumerate-2 : tie.Need-slice-aggregate-enumerate-2
 slice-aggregate-enumerate-2 c = search needs
@@ -70,9 +81,11 @@ same-length-2 c = search needs
 
 returns-3 : tie.Need-returns-3
 returns-3 c =
-    let g = c .before .before .before .before .before .before .before .before .before .before .before .before .before .before .before .before .args in
-    runs-answered (g .w .now) (g .table .now) _ _
-    (runs-written (g .w .now) (g .table .now) _ _ (c .before .before .before .before .before .before .before .before .before .before .enumerate .result) (omega arith) (c .before .before .before .before .before .before .before .before .before .before .enumerate .ensures .0) (table-kept (c .before .before .before .before .before .before .before .before .before .before)) (omega (arith, c .before .before .before .before .before .before .if2 .left, ap length (table-kept (c .before .before .before .before .before .before .before .before .before .before)))) (c .before .before .before .enumerate2 .ensures .1 .0))
+    let k = c .before .before .before .before .before .before .before .before .before .before in
+    let e = k .enumerate in
+    runs-answered (word k) (table-lent k) _ _
+    (runs-written (word k) (table-lent k) _ _ (e .result) (omega arith) (e .ensures .0) (table-kept k) (omega (arith, c .before .before .before .before .before .before .if2 .left, ap length (table-kept k)))
+    (c .before .before .before .enumerate2 .ensures .1 .0))
 
 pub runs-spec : {M : Type 1} → statement M
 runs-spec =

@@ -5,11 +5,11 @@ use Prim.Native.Nat.{ℕ, _+_, _-_, _*_, _<_, _≤_}
 use native.Mathlib.Omega.{arith}
 use borrow.Author.Needs.{needs}
 use lib.ListN.{length, getD, drop, length-take, length-drop}
-use Rattle.factors.specs.Factorization.{choiceOf}
+use Rattle.factors.specs.Factorization.{Choice, choiceOf}
 use Rattle.factors.specs.Table.{rows, spread}
 use Rattle.factors.proofs.Lent.{lent, lent-length}
 use Rattle.repetitions.specs.Fill.{placeOfUnit}
-use Rattle.repetitions.proofs.FillLaws.{second, third, fourth, Filling, zeros-length, begun-from, begun-long, begun-kept, filling-starts, filling-skips, laid-from, laid-long, laid-rises, filling-spreads, filling-done}
+use Rattle.repetitions.proofs.FillLaws.{second, third, fourth, Filling, zeros-length, begun, begun-from, begun-long, begun-kept, filling-starts, filling-skips, laid-from, laid-long, laid-rises, filling-spreads, filling-done}
 use Rattle.repetitions.proofs.inner.fill.Statement.{statement}
 use Rattle.repetitions.proofs.inner.fill.Tie as tie
 
@@ -19,14 +19,31 @@ Inv-loop w choice work₀ n row two three j₀ work j = (j ≤ n) × Filling (ch
 abbrev μ-loop : tie.MeasureT-loop
 μ-loop w choice work₀ n row two three j₀ work j = n - j
 
+-- in a turn of the loop: the arguments, and the table when the loop began
+abbrev Turn : Type 0
+Turn = tie.At-loop Inv-loop μ-loop
+
+abbrev word : Turn → List ℕ
+word c = c .before .before .before .before .before .before .before .before .before .before .before .args .w .now
+
+abbrev chosen : Turn → Choice
+chosen c = choiceOf (c .before .before .before .before .before .before .before .before .before .before .before .args .choice)
+
+abbrev entered : Turn → List ℕ
+entered c = c .before .before .before .before .before .before .before .before .before .before .before .args .work .now
+
+abbrev first : Turn → List ℕ
+first c = lent (c .before .before .before .before .before .before .before .start .last .0) (length (word c) + 1) (second (length (word c))) (c .before .before .before .clear .last .0)
+
+first-is : (c : Turn) → first c ≡ begun (word c) (entered c)
+first-is c = begun-from (word c) (entered c) _ _ (c .before .before .before .before .before .before .before .start .ensures) (c .before .before .before .clear .ensures)
+
 -- the table keeps its length
-long : (c : tie.At-loop Inv-loop μ-loop) → length (c .loop .work) ≡ length (c .before .before .before .before .before .before .before .before .before .before .before .args .work .now)
-long c =
-    let g = c .before .before .before .before .before .before .before .before .before .before .before .args in
-    c .loop .inv .1 .long ∙ ap length (begun-from (g .w .now) (g .work .now) _ _ (c .before .before .before .before .before .before .before .start .ensures) (c .before .before .before .clear .ensures)) ∙ begun-long (choiceOf (g .choice)) (g .w .now) (g .work .now) (omega arith)
+long : (c : Turn) → length (c .loop .work) ≡ length (entered c)
+long c = c .loop .inv .1 .long ∙ ap length (first-is c) ∙ begun-long (chosen c) (word c) (entered c) (omega arith)
 
 -- and had enough places when the loop began
-room : (c : tie.At-loop Inv-loop μ-loop) → rows * (length (c .before .before .before .before .before .before .before .before .before .before .before .args .w .now) + 1) ≤ length (lent (c .before .before .before .before .before .before .before .start .last .0) (length (c .before .before .before .before .before .before .before .before .before .before .before .args .w .now) + 1) (second (length (c .before .before .before .before .before .before .before .before .before .before .before .args .w .now))) (c .before .before .before .clear .last .0))
+room : (c : Turn) → rows * (length (word c) + 1) ≤ length (first c)
 room c = omega (arith, long c, c .loop .inv .1 .long)
 
 add-row : tie.Need-add-row Inv-loop μ-loop
@@ -77,7 +94,9 @@ loop-less : tie.Need-loop-less Inv-loop μ-loop
 loop-less c = omega arith
 
 loop-again : tie.Need-loop-again Inv-loop μ-loop
-loop-again c = (omega arith, filling-skips (choiceOf (c .before .before .before .before .before .before .before .before .before .before .before .before .before .before .args .choice)) (c .before .before .before .before .before .before .before .before .before .before .before .before .before .before .args .w .now) _ _ _ (c .before .before .before .loop .inv .1) (room (c .before .before .before)) (omega arith) (c .if1 .taken))
+loop-again c =
+    let t = c .before .before .before in
+    (omega arith, filling-skips (chosen t) (word t) _ _ _ (t .loop .inv .1) (room t) (omega arith) (c .if1 .taken))
 
 sub-units : tie.Need-sub-units Inv-loop μ-loop
 sub-units c = omega arith
@@ -102,32 +121,36 @@ part-units-end-2 c = search needs
 
 units-requires : tie.Need-units-requires Inv-loop μ-loop
 units-requires c κs =
-    let g = c .before .before .before .before .before .before .before .before .before .before .before .before .before .before .before .before .args in
-    let l = c .before .before .before .before .before .loop in (
+    let t = c .before .before .before .before .before in
+    let n = length (word t) in
+    let j = t .loop .j in (
       omega (
         arith,
-        long (c .before .before .before .before .before),
-        length-take (length (g .w .now) - l .j) (drop (l .j) (g .w .now)),
-        length-drop (l .j) (g .w .now),
-        length-take (third (length (g .w .now)) - second (length (g .w .now))) (drop (second (length (g .w .now))) (l .work)),
-        length-drop (second (length (g .w .now))) (l .work),
+        long t,
+        length-take (n - j) (drop j (word t)),
+        length-drop j (word t),
+        length-take (third n - second n) (drop (second n) (t .loop .work)),
+        length-drop (second n) (t .loop .work),
       ),
-      omega (arith, length-take (length (g .w .now) - l .j) (drop (l .j) (g .w .now))),
+      omega (arith, length-take (n - j) (drop j (word t))),
     )
 
 add-spread : tie.Need-add-spread Inv-loop μ-loop
-add-spread c = omega (arith, c .before .before .before .before .before .before .if1 .left, c .before .before .before .before .before .before .before .slice-known4 .given (c .before .before .before .before .before .before .before .before .before .loop .j))
+add-spread c =
+    let t = c .before .before .before .before .before .before .before .before .before in
+    omega (arith, c .before .before .before .before .before .before .if1 .left, c .before .before .before .before .before .before .before .slice-known4 .given (t .loop .j))
 
 spread-requires : tie.Need-spread-requires Inv-loop μ-loop
 spread-requires c κs =
-    let g = c .before .before .before .before .before .before .before .before .before .before .before .before .before .before .before .before .before .before .before .before .args in
-    let l = c .before .before .before .before .before .before .before .before .before .loop in
-    let e = laid-from (g .w .now) (l .j) (l .work) _ (c .before .before .before .units .ensures) in (
+    let t = c .before .before .before .before .before .before .before .before .before in
+    let n = length (word t) in
+    let j = t .loop .j in
+    let e = laid-from (word t) j (t .loop .work) _ (c .before .before .before .units .ensures) in (
       omega arith,
       omega arith,
-      omega (arith, long (c .before .before .before .before .before .before .before .before .before), ap length e, laid-long (choiceOf (g .choice)) (g .w .now) _ (l .work) (l .j) (l .inv .1) (room (c .before .before .before .before .before .before .before .before .before)) (omega arith), room (c .before .before .before .before .before .before .before .before .before)),
-      subst (λ (t : List ℕ). (d f : ℕ) → d ≤ f → f < length (g .w .now) - l .j → getD t (placeOfUnit (length (g .w .now)) d) 0 ≤ getD t (placeOfUnit (length (g .w .now)) f) 0) (sym e)
-          (laid-rises (choiceOf (g .choice)) (g .w .now) _ (l .work) (l .j) (l .inv .1) (room (c .before .before .before .before .before .before .before .before .before)) (omega arith)),
+      omega (arith, long t, ap length e, laid-long (chosen t) (word t) _ (t .loop .work) j (t .loop .inv .1) (room t) (omega arith), room t),
+      subst (λ (u : List ℕ). (d f : ℕ) → d ≤ f → f < n - j → getD u (placeOfUnit n d) 0 ≤ getD u (placeOfUnit n f) 0) (sym e)
+          (laid-rises (chosen t) (word t) _ (t .loop .work) j (t .loop .inv .1) (room t) (omega arith)),
     )
 
 add-j-2 : tie.Need-add-j-2 Inv-loop μ-loop
@@ -138,10 +161,12 @@ loop-less-2 c = omega arith
 
 loop-again-2 : tie.Need-loop-again-2 Inv-loop μ-loop
 loop-again-2 c =
-    let g = c .before .before .before .before .before .before .before .before .before .before .before .before .before .before .before .before .before .before .before .before .before .before .before .args in
-    let l = c .before .before .before .before .before .before .before .before .before .before .before .before .loop in
-    let e = laid-from (g .w .now) (l .j) (l .work) _ (c .before .before .before .before .before .before .units .ensures) in
-    (omega arith, filling-spreads (choiceOf (g .choice)) (g .w .now) _ (l .work) (l .j) (l .inv .1) (room (c .before .before .before .before .before .before .before .before .before .before .before .before)) (omega arith) (omega arith) (c .before .before .before .before .before .before .before .before .before .if1 .left) _ _ e (c .before .before .spread .ensures))
+    let t = c .before .before .before .before .before .before .before .before .before .before .before .before in
+    let j = t .loop .j in
+    let e = laid-from (word t) j (t .loop .work) _ (c .before .before .before .before .before .before .units .ensures) in (
+      omega arith,
+      filling-spreads (chosen t) (word t) _ (t .loop .work) j (t .loop .inv .1) (room t) (omega arith) (omega arith) (c .before .before .before .before .before .before .before .before .before .if1 .left) _ _ e (c .before .before .spread .ensures),
+    )
 
 add-four : tie.Need-add-four Inv-loop μ-loop
 add-four c = omega arith
@@ -163,22 +188,22 @@ clear-requires-2 c κs = search needs
 
 same-length : tie.Need-same-length Inv-loop μ-loop
 same-length c =
-    let g = c .before .before .before .before .before .before .before .before .before .before .before .before .before .before .before .before .args in
-    let l = c .before .before .before .before .before .loop in
-    lent-length (l .work) (second (length (g .w .now))) (fourth (length (g .w .now))) (c .before .before .clear2 .last .0) (omega arith) (omega (arith, long (c .before .before .before .before .before)))
-    (ap length (c .before .before .clear2 .ensures) ∙ zeros-length (l .work) (second (length (g .w .now))) (fourth (length (g .w .now))) (omega (arith, long (c .before .before .before .before .before))))
-    ∙ long (c .before .before .before .before .before)
+    let t = c .before .before .before .before .before in
+    let a = second (length (word t)) in
+    let b = fourth (length (word t)) in
+    lent-length (t .loop .work) a b (c .before .before .clear2 .last .0) (omega arith) (omega (arith, long t))
+    (ap length (c .before .before .clear2 .ensures) ∙ zeros-length (t .loop .work) a b (omega (arith, long t)))
+    ∙ long t
 
 returns : tie.Need-returns Inv-loop μ-loop
 returns c =
-    let g = c .before .before .before .before .before .before .before .before .before .before .before .before .before .before .before .before .args in
-    let l = c .before .before .before .before .before .loop in
-    let e : l .j ≡ length (g .w .now) = omega arith in
-    let f = begun-from (g .w .now) (g .work .now) _ _ (c .before .before .before .before .before .before .before .before .before .before .before .before .start .ensures) (c .before .before .before .before .before .before .before .before .clear .ensures) in
-    ap (lent (l .work) (second (length (g .w .now))) (fourth (length (g .w .now)))) (c .before .before .clear2 .ensures)
-    ∙ filling-done (choiceOf (g .choice)) (g .w .now) (g .work .now) _ (l .work) (l .j) (omega arith) (ap length f ∙ begun-long (choiceOf (g .choice)) (g .w .now) (g .work .now) (omega arith))
-    (ap (drop (rows * (length (g .w .now) + 1))) f ∙ begun-kept (choiceOf (g .choice)) (g .w .now) (g .work .now) (omega arith))
-    e (l .inv .1)
+    let t = c .before .before .before .before .before in
+    let n = length (word t) in
+    let e : t .loop .j ≡ n = omega arith in
+    ap (lent (t .loop .work) (second n) (fourth n)) (c .before .before .clear2 .ensures)
+    ∙ filling-done (chosen t) (word t) (entered t) _ (t .loop .work) (t .loop .j) (omega arith) (ap length (first-is t) ∙ begun-long (chosen t) (word t) (entered t) (omega arith))
+    (ap (drop (rows * (n + 1))) (first-is t) ∙ begun-kept (chosen t) (word t) (entered t) (omega arith))
+    e (t .loop .inv .1)
 
 pub fill-spec : {M : Type 1} → statement M
 fill-spec =

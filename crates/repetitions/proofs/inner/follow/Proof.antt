@@ -1,13 +1,14 @@
 -- `repetitions::inner::follow` meets its contract: its loop keeps that the verdict on the blocks that are left is the verdict on all. Assumes nothing.
 use mathlib.Core.Path.{_≡_, refl, sym, ap, _∙_}
-use mathlib.Core.Bool.{Bool}
-use Prim.Native.Nat.{ℕ, _+_, _-_, _*_, _≤_}
+use mathlib.Core.Bool.{Bool, true, false}
+use mathlib.Core.List.{List, [], _∷_}
+use Prim.Native.Nat.{ℕ, suc, _+_, _-_, _*_, _≤_, _<_}
 use native.Mathlib.Omega.{arith}
 use native.Mathlib.Numerals.{add-one}
 use borrow.Author.Needs.{needs}
 use borrow.Author.Tests.{not-true, not-false}
 use lib.ListN.{length, getD, drop, length-replicate}
-use Rattle.answers.specs.Outcome.{limit, refused}
+use Rattle.answers.specs.Outcome.{Outcome, refused, limit}
 use Rattle.periods.specs.Period.{anyPeriod, turns}
 use Rattle.runs.specs.Table.{stride}
 use Rattle.factors.specs.Verdict.{verdictFrom, verdict}
@@ -28,9 +29,38 @@ Inv-loop w numbers n counts units₀ rows₀ before₀ k₀ units rows before k 
 abbrev μ-loop : tie.MeasureT-loop
 μ-loop w numbers n counts units₀ rows₀ before₀ k₀ units rows before k = length numbers - (k + k)
 
+-- in a turn of the loop: the arguments, the test of a piece, the next end and those after it
+abbrev Turn : Type 0
+Turn = tie.At-loop Inv-loop μ-loop
+
+abbrev word : Turn → List ℕ
+word c = c .before .before .before .before .before .before .before .before .args .w .now
+
+abbrev given : Turn → List ℕ
+given c = c .before .before .before .before .before .before .before .before .args .numbers .now
+
+abbrev test : Turn → ℕ → ℕ → ℕ → Bool
+test c = segment? anyPeriod turns (word c) (given c)
+
+abbrev end : Turn → ℕ
+end c = getD (given c) (c .loop .k + c .loop .k + 1) 0
+
+abbrev rest : Turn → List ℕ
+rest c = drop (c .loop .k + 1) (endsOfPairs (given c))
+
+abbrev answer : Turn → Outcome
+answer c = verdict (test c) (length (word c)) (endsOfPairs (given c))
+
+-- the verdict on the ends that are left is the answer
+next : (c : Turn) → c .loop .k + c .loop .k + 1 < length (given c) → verdictFrom (test c) (length (word c)) (c .loop .k) (c .loop .before) (end c ∷ rest c) ≡ answer c
+next c h = sym (path-verdict-more (test c) (length (word c)) (c .loop .k) (c .loop .before) (given c) h) ∙ c .loop .inv .3
+
+none-left : (c : Turn) → length (given c) ≤ c .loop .k + c .loop .k → verdictFrom (test c) (length (word c)) (c .loop .k) (c .loop .before) [] ≡ answer c
+none-left c h = sym (path-verdict-none-left (test c) (length (word c)) (c .loop .k) (c .loop .before) (given c) h) ∙ c .loop .inv .3
+
 -- the counts keep their length
 counts-long : (c : tie.After-counts2 Inv-loop μ-loop) → length (c .counts2 .last .1 .1 .0) ≡ limit + 1
-counts-long c = c .counts2 .kept .1 .1 .0 ∙ length-replicate {A = ℕ} 4097 0
+counts-long c = c .counts2 .kept .1 .1 .0 ∙ length-replicate {A = ℕ} (limit + 1) 0
 
 slice-aggregate-counts : tie.Need-slice-aggregate-counts Inv-loop μ-loop
 slice-aggregate-counts c = refl
@@ -43,8 +73,14 @@ counts-requires c κs = search needs
 
 loop-holds : tie.Need-loop-holds Inv-loop μ-loop
 loop-holds c =
-    let g = c .before .before .before .before .before .before .before .args in
-    (omega arith, omega arith, omega arith, verdict-start (segment? anyPeriod turns (g .w .now) (g .numbers .now)) (length (g .w .now)) (endsOfPairs (g .numbers .now)), c .before .before .counts2 .kept .1 .0 ∙ length-replicate {A = ℕ} 4096 0, length-replicate {A = ℕ} 12288 0)
+    let g = c .before .before .before .before .before .before .before .args in (
+      omega arith,
+      omega arith,
+      omega arith,
+      verdict-start (segment? anyPeriod turns (g .w .now) (g .numbers .now)) (length (g .w .now)) (endsOfPairs (g .numbers .now)),
+      c .before .before .counts2 .kept .1 .0 ∙ length-replicate {A = ℕ} limit 0,
+      length-replicate {A = ℕ} (stride * limit) 0,
+    )
 
 add-loop : tie.Need-add-loop Inv-loop μ-loop
 add-loop c = omega arith
@@ -71,7 +107,9 @@ shared-slice-read-end : tie.Need-shared-slice-read-end Inv-loop μ-loop
 shared-slice-read-end c = omega arith
 
 cast-end : tie.Need-cast-end Inv-loop μ-loop
-cast-end c = omega (arith, c .shared-slice-known4 .given (c .before .before .before .loop .k + c .before .before .before .loop .k + 1))
+cast-end c =
+    let l = c .before .before .before .loop in
+    omega (arith, c .shared-slice-known4 .given (l .k + l .k + 1))
 
 add-number : tie.Need-add-number Inv-loop μ-loop
 add-number c = omega arith
@@ -81,23 +119,15 @@ cast-number c = omega arith
 
 returns : tie.Need-returns Inv-loop μ-loop
 returns c =
-    let g = c .before .before .before .before .before .before .before .before .before .before .before .before .args in
-    let l = c .before .before .before .before .loop in
-    let B : ℕ → ℕ → ℕ → Bool = segment? anyPeriod turns (g .w .now) (g .numbers .now) in
-    let e = getD (g .numbers .now) (l .k + l .k + 1) 0 in
-    ap (refused 3) (add-one (l .k)) ∙ sym (verdict-low B (length (g .w .now)) (l .k) (l .before) e (drop (l .k + 1) (endsOfPairs (g .numbers .now))) (c .if1 .taken))
-    ∙ sym (path-verdict-more B (length (g .w .now)) (l .k) (l .before) (g .numbers .now) (omega arith))
-    ∙ l .inv .3
+    let t = c .before .before .before .before in
+    let l = t .loop in
+    ap (refused 3) (add-one (l .k)) ∙ sym (verdict-low (test t) (length (word t)) (l .k) (l .before) (end t) (rest t) (c .if1 .taken)) ∙ next t (omega arith)
 
 returns-2 : tie.Need-returns-2 Inv-loop μ-loop
 returns-2 c =
-    let g = c .before .before .before .before .before .before .before .before .before .before .before .before .before .args in
-    let l = c .before .before .before .before .before .loop in
-    let B : ℕ → ℕ → ℕ → Bool = segment? anyPeriod turns (g .w .now) (g .numbers .now) in
-    let e = getD (g .numbers .now) (l .k + l .k + 1) 0 in
-    ap (refused 3) (add-one (l .k)) ∙ sym (verdict-high B (length (g .w .now)) (l .k) (l .before) e (drop (l .k + 1) (endsOfPairs (g .numbers .now))) (c .if2 .taken))
-    ∙ sym (path-verdict-more B (length (g .w .now)) (l .k) (l .before) (g .numbers .now) (omega arith))
-    ∙ l .inv .3
+    let t = c .before .before .before .before .before in
+    let l = t .loop in
+    ap (refused 3) (add-one (l .k)) ∙ sym (verdict-high (test t) (length (word t)) (l .k) (l .before) (end t) (rest t) (c .if2 .taken)) ∙ next t (omega arith)
 
 slice-aggregate-run-with : tie.Need-slice-aggregate-run-with Inv-loop μ-loop
 slice-aggregate-run-with c = sym (counts-long (c .before .before .before .before .before .before .before .before .before))
@@ -110,23 +140,20 @@ slice-aggregate-run-with-3 c = sym (c .before .before .before .before .before .b
 
 run-with-requires : tie.Need-run-with-requires Inv-loop μ-loop
 run-with-requires c κs =
-    let g = c .before .before .before .before .before .before .before .before .before .before .before .before .before .before .before .before .args in
-    let l = c .before .before .before .before .before .before .before .before .loop in
-    (omega arith, omega (arith, l .inv .4), omega (arith, l .inv .5), omega (arith, counts-long (c .before .before .before .before .before .before .before .before .before .before .before)), counts-found (g .w .now) _ _ (c .before .before .before .before .before .before .before .before .before .before .before .counts2 .ensures .0))
+    let t = c .before .before .before .before .before .before .before .before in
+    let n = c .before .before .before .before .before .before .before .before .before .before .before in
+    (omega arith, omega (arith, t .loop .inv .4), omega (arith, t .loop .inv .5), omega (arith, counts-long n), counts-found (word t) _ _ (n .counts2 .ensures .0))
 
 lies-in-requires : tie.Need-lies-in-requires Inv-loop μ-loop
 lies-in-requires c κs = (omega arith, omega arith)
 
 returns-3 : tie.Need-returns-3 Inv-loop μ-loop
 returns-3 c =
-    let g = c .before .before .before .before .before .before .before .before .before .before .before .before .before .before .before .before .before .before .before .before .before .args in
-    let l = c .before .before .before .before .before .before .before .before .before .before .before .before .before .loop in
-    let B : ℕ → ℕ → ℕ → Bool = segment? anyPeriod turns (g .w .now) (g .numbers .now) in
-    let e = getD (g .numbers .now) (l .k + l .k + 1) 0 in
-    ap (refused 4) (add-one (l .k))
-    ∙ sym (verdict-no-block B (length (g .w .now)) (l .k) (l .before) e (drop (l .k + 1) (endsOfPairs (g .numbers .now))) (omega arith) (omega arith) (segment-test (g .w .now) (g .numbers .now) (l .k) (l .before) e _ (omega arith) (c .before .before .before .before .run-with .ensures .0) ∙ sym (c .before .lies-in .ensures) ∙ not-true _ (c .if3 .taken)))
-    ∙ sym (path-verdict-more B (length (g .w .now)) (l .k) (l .before) (g .numbers .now) (omega arith))
-    ∙ l .inv .3
+    let t = c .before .before .before .before .before .before .before .before .before .before .before .before .before in
+    let l = t .loop in
+    let no : test t (suc (l .k)) (l .before) (end t) ≡ false =
+    segment-test (word t) (given t) (l .k) (l .before) (end t) _ (omega arith) (c .before .before .before .before .run-with .ensures .0) ∙ sym (c .before .lies-in .ensures) ∙ not-true _ (c .if3 .taken) in
+    ap (refused 4) (add-one (l .k)) ∙ sym (verdict-no-block (test t) (length (word t)) (l .k) (l .before) (end t) (rest t) (omega arith) (omega arith) no) ∙ next t (omega arith)
 
 add-k : tie.Need-add-k Inv-loop μ-loop
 add-k c = omega arith
@@ -136,41 +163,33 @@ loop-less c = omega arith
 
 loop-again : tie.Need-loop-again Inv-loop μ-loop
 loop-again c =
-    let g = c .before .before .before .before .before .before .before .before .before .before .before .before .before .before .before .before .before .before .before .before .before .args in
-    let l = c .before .before .before .before .before .before .before .before .before .before .before .before .before .loop in
-    let B : ℕ → ℕ → ℕ → Bool = segment? anyPeriod turns (g .w .now) (g .numbers .now) in
-    let e = getD (g .numbers .now) (l .k + l .k + 1) 0 in (
+    let t = c .before .before .before .before .before .before .before .before .before .before .before .before .before in
+    let l = t .loop in
+    let r = c .before .before .before .before .run-with in
+    let lies : test t (suc (l .k)) (l .before) (end t) ≡ true =
+    segment-test (word t) (given t) (l .k) (l .before) (end t) _ (omega arith) (r .ensures .0) ∙ sym (c .before .lies-in .ensures) ∙ not-false _ (c .if3 .left) in (
       omega arith,
       omega arith,
       omega arith,
-      ap (λ (x : ℕ). verdictFrom B (length (g .w .now)) x e (drop (l .k + 1) (endsOfPairs (g .numbers .now)))) (add-one (l .k))
-          ∙ sym (verdict-block B (length (g .w .now)) (l .k) (l .before) e (drop (l .k + 1) (endsOfPairs (g .numbers .now))) (omega arith) (omega arith) (segment-test (g .w .now) (g .numbers .now) (l .k) (l .before) e _ (omega arith) (c .before .before .before .before .run-with .ensures .0) ∙ sym (c .before .lies-in .ensures) ∙ not-false _ (c .if3 .left)))
-          ∙ sym (path-verdict-more B (length (g .w .now)) (l .k) (l .before) (g .numbers .now) (omega arith))
-          ∙ l .inv .3,
-      c .before .before .before .before .run-with .kept .1 .1 .1 .0 ∙ l .inv .4,
-      c .before .before .before .before .run-with .kept .1 .1 .1 .1 .0 ∙ l .inv .5,
+      ap (λ (x : ℕ). verdictFrom (test t) (length (word t)) x (end t) (rest t)) (add-one (l .k))
+          ∙ sym (verdict-block (test t) (length (word t)) (l .k) (l .before) (end t) (rest t) (omega arith) (omega arith) lies)
+          ∙ next t (omega arith),
+      r .kept .1 .1 .1 .0 ∙ l .inv .4,
+      r .kept .1 .1 .1 .1 .0 ∙ l .inv .5,
     )
 
 returns-4 : tie.Need-returns-4 Inv-loop μ-loop
 returns-4 c =
-    let g = c .before .before .before .before .before .before .before .before .before .before .args in
-    let l = c .before .before .loop in
-    let B : ℕ → ℕ → ℕ → Bool = segment? anyPeriod turns (g .w .now) (g .numbers .now) in
-    sym (verdict-unfinished B (length (g .w .now)) (l .k) (l .before) (c .if4 .taken))
-    ∙ sym (path-verdict-none-left B (length (g .w .now)) (l .k) (l .before) (g .numbers .now) (omega arith))
-    ∙ l .inv .3
+    let t = c .before .before in
+    sym (verdict-unfinished (test t) (length (word t)) (t .loop .k) (t .loop .before) (c .if4 .taken)) ∙ none-left t (omega arith)
 
 cast-t37 : tie.Need-cast-t37 Inv-loop μ-loop
 cast-t37 c = omega arith
 
 returns-5 : tie.Need-returns-5 Inv-loop μ-loop
 returns-5 c =
-    let g = c .before .before .before .before .before .before .before .before .before .before .args in
-    let l = c .before .before .loop in
-    let B : ℕ → ℕ → ℕ → Bool = segment? anyPeriod turns (g .w .now) (g .numbers .now) in
-    sym (verdict-finished B (length (g .w .now)) (l .k) (l .before) (c .if4 .left))
-    ∙ sym (path-verdict-none-left B (length (g .w .now)) (l .k) (l .before) (g .numbers .now) (omega arith))
-    ∙ l .inv .3
+    let t = c .before .before in
+    sym (verdict-finished (test t) (length (word t)) (t .loop .k) (t .loop .before) (c .if4 .left)) ∙ none-left t (omega arith)
 
 pub follow-spec : {M : Type 1} → statement M
 follow-spec =

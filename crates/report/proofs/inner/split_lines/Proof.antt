@@ -1,16 +1,25 @@
 -- `report::inner::split_lines` meets its contract: best split can only answer, or say that there is no split; the lines are those of its answer. Assumes
 -- nothing.
 use mathlib.Core.Path.{ap}
-use mathlib.Core.List.{[], _∷_}
-use Prim.Native.Nat.{ℕ, _-_}
+use mathlib.Core.List.{List, [], _∷_}
+use Prim.Native.Nat.{ℕ, _+_, _-_, _*_}
 use native.Mathlib.Omega.{arith}
 use borrow.Author.Needs.{needs}
 use lib.ListN.{take, replicate, length-replicate}
-use Rattle.report.specs.Text.{noneText, line, blockLines, splitText}
+use Rattle.factors.specs.Table.{rows}
+use Rattle.report.specs.Text.{programLimit, noneText, line, blockLines, splitText}
+use Rattle.report.specs.Records.{mostBlocks}
 use Rattle.report.proofs.Stores.{stored, stored-as, stored-more, ensured, line-long}
 use Rattle.report.proofs.Splits.{endsOf, Blocked, split-refused, split-counted}
 use Rattle.report.proofs.inner.split_lines.Statement.{statement}
 use Rattle.report.proofs.inner.split_lines.Tie as tie
+
+-- the two tables that best split is lent
+abbrev ends-lent : List ℕ
+ends-lent = replicate mostBlocks 0
+
+abbrev work-lent : List ℕ
+work-lent = replicate (rows * (programLimit + 1)) 0
 
 slice-aggregate-best-split : tie.Need-slice-aggregate-best-split
 slice-aggregate-best-split c = search needs
@@ -54,55 +63,76 @@ sub-block-lines c = search needs
 part-block-lines-start : tie.Need-part-block-lines-start
 part-block-lines-start c = search needs
 
+-- once the split is known: the arguments, its size, and the ends' table
+abbrev Known : Type 0
+Known = tie.After-slice-known4
+
+abbrev word : Known → List ℕ
+word c = c .before .before .before .before .before .before .before .before .before .before .before .before .before .before .before .before .args .w .now
+
+abbrev choice-given : Known → ℕ
+choice-given c = c .before .before .before .before .before .before .before .before .before .before .before .before .before .before .before .before .args .choice
+
+abbrev name-given : Known → List ℕ
+name-given c = c .before .before .before .before .before .before .before .before .before .before .before .before .before .before .before .before .args .name .now
+
+abbrev blocks : Known → ℕ
+blocks c = c .before .before .before .before .before .before .best .given .0 .0
+
+abbrev ends-written : Known → List ℕ
+ends-written c = c .before .before .before .before .before .before .before .before .before .before .best-split .last .1 .1 .0
+
 -- what the answer of best split says
-counted : (c : tie.After-slice-known4) → Blocked (c .before .before .before .before .before .before .before .before .before .before .before .before .before .before .before .before .args .w .now) (c .before .before .before .before .before .before .before .before .before .before .before .before .before .before .before .before .args .choice) (c .before .before .before .before .before .before .before .before .before .before .before .before .before .before .before .before .args .name .now) (c .before .before .before .before .before .before .best .given .0 .0) (c .before .before .before .before .before .before .before .before .before .before .best-split .last .1 .1 .0)
+counted : (c : Known) → Blocked (word c) (choice-given c) (name-given c) (blocks c) (ends-written c)
 counted c =
-    let g = c .before .before .before .before .before .before .before .before .before .before .before .before .before .before .before .before in
+    let p = c .before .before .before .before .before .before .before .before .before .before .before .before .before .before .before .before .pre .0 in
     let s = c .before .before .before .before .before .before .before .before .before .before .best-split in
-    split-counted (g .args .w .now) (g .args .choice) (g .args .name .now) (replicate 512 0) (replicate 4100 0) (g .pre .0 .1) (g .pre .0 .2) (g .pre .0 .3) (length-replicate {A = ℕ} 512 0) (length-replicate {A = ℕ} 4100 0)
-    (s .result) (c .before .before .before .before .before .before .best .given .0 .0) (c .before .before .before .before .before .before .best .given .1) (s .ensures .0) (s .last .1 .1 .0) (s .ensures .1 .0)
+    split-counted (word c) (choice-given c) (name-given c) ends-lent work-lent (p .1) (p .2) (p .3) (length-replicate {A = ℕ} mostBlocks 0) (length-replicate {A = ℕ} (rows * (programLimit + 1)) 0)
+    (s .result) (blocks c) (c .before .before .before .before .before .before .best .given .1) (s .ensures .0) (s .last .1 .1 .0) (s .ensures .1 .0)
 
 part-block-lines-end : tie.Need-part-block-lines-end
-part-block-lines-end c = omega (arith, counted (c .before) .few, c .before .before .before .before .before .before .before .before .before .before .before .best-split .kept .1 .1 .0, length-replicate {A = ℕ} 512 0, c .before .before .before .before .before .before .before .before .before .before .before .before .before .before .before .before .before .pre .0 .1)
+part-block-lines-end c =
+    let k = c .before in
+    omega (arith, counted k .few, k .before .before .before .before .before .before .before .before .before .before .best-split .kept .1 .1 .0, length-replicate {A = ℕ} mostBlocks 0, k .before .before .before .before .before .before .before .before .before .before .before .before .before .before .before .before .pre .0 .1)
 
 block-lines-requires : tie.Need-block-lines-requires
 block-lines-requires c κs =
-    let g = c .before .before .before .before .before .before .before .before .before .before .before .before .before .before .before .before .before .before .before in
-    let C = counted (c .before .before .before) in
-    let size = c .before .before .before .before .before .before .before .before .before .best .given .0 .0 in
-    ((omega (arith, c .before .before .before .before .before .put-line .ensures .0, line-long (g .args .name .now) (size ∷ [])), g .pre .0 .1, rw (C .ends) (C .split)), g .pre .1)
+    let k = c .before .before .before in
+    let p = k .before .before .before .before .before .before .before .before .before .before .before .before .before .before .before .before .pre in
+    let C = counted k in
+    ((omega (arith, c .before .before .before .before .before .put-line .ensures .0, line-long (name-given k) (blocks k ∷ [])), p .0 .1, rw (C .ends) (C .split)), p .1)
 
 same-length : tie.Need-same-length
 same-length c = search needs
 
 returns : tie.Need-returns
 returns c =
-    let g = c .before .before .before .before .before .before .before .before .before .before .before .before .before .before .before .before .before .before .before in
+    let b = c .before .before .before .before .before .before .before .before .before .before .before .before .before .before .before .before .before .before .before in
+    let g = b .args in
+    let s = c .before .before .before .before .before .before .before .before .before .before .before .before .before .best-split in
     let r = c .before .before .before .before .before .before .before .before .before .enum-told .given in
+    let first = c .before .before .before .before .before .before .before .put-text in
     let none =
-    split-refused (g .args .w .now) (g .args .choice) (g .args .name .now) (replicate 512 0) (replicate 4100 0) (g .pre .0 .1) (g .pre .0 .2) (g .pre .0 .3) (length-replicate {A = ℕ} 512 0)
-    (length-replicate {A = ℕ} 4100 0) (c .before .before .before .before .before .before .before .before .before .before .before .before .before .best-split .result) (r .0 .0) (r .1) (c .before .before .before .before .before .before .before .before .before .before .before .before .before .best-split .ensures .0) in
-    let name = stored (g .args .out .now) (g .args .at) (g .args .name .now) _ _ (c .before .before .before .before .before .before .before .put-text .ensures) in
+    split-refused (g .w .now) (g .choice) (g .name .now) ends-lent work-lent (b .pre .0 .1) (b .pre .0 .2) (b .pre .0 .3) (length-replicate {A = ℕ} mostBlocks 0)
+    (length-replicate {A = ℕ} (rows * (programLimit + 1)) 0) (s .result) (r .0 .0) (r .1) (s .ensures .0) in
     ensured
-    (stored-as (splitText (g .args .w .now) (g .args .choice) (g .args .name .now)) none
-    (stored-more name (stored (c .before .before .before .before .before .before .before .put-text .last .0) (c .before .before .before .before .before .before .before .put-text .result) noneText _ _ (c .before .before .put-text2 .ensures))))
+    (stored-as (splitText (g .w .now) (g .choice) (g .name .now)) none
+    (stored-more (stored (g .out .now) (g .at) (g .name .now) _ _ (first .ensures)) (stored (first .last .0) (first .result) noneText _ _ (c .before .before .put-text2 .ensures))))
 
 same-length-2 : tie.Need-same-length-2
 same-length-2 c = search needs
 
 returns-2 : tie.Need-returns-2
 returns-2 c =
-    let g = c .before .before .before .before .before .before .before .before .before .before .before .before .before .before .before .before .before .before .before .before .before .before .args in
-    let w = g .w .now in
-    let C = counted (c .before .before .before .before .before .before) in
-    let size = c .before .before .before .before .before .before .before .before .before .before .before .before .best .given .0 .0 in
-    let x = c .before .before .before .before .before .before .before .before .before .before .before .before .before .before .before .before .best-split .last .1 .1 .0 in
+    let k = c .before .before .before .before .before .before in
+    let g = k .before .before .before .before .before .before .before .before .before .before .before .before .before .before .before .before .args in
+    let C = counted k in
     let first = c .before .before .before .before .before .before .before .before .put-line in
-    let named = stored (g .out .now) (g .at) (line (g .name .now) (size ∷ [])) _ _ (first .ensures) in
-    let blocks = stored (first .last .0) (first .result) (blockLines w 0 0 (take (size - 0) x)) _ _ (c .before .before .block-lines .ensures) in
+    let named = stored (g .out .now) (g .at) (line (name-given k) (blocks k ∷ [])) _ _ (first .ensures) in
+    let lines = stored (first .last .0) (first .result) (blockLines (word k) 0 0 (take (blocks k - 0) (ends-written k))) _ _ (c .before .before .block-lines .ensures) in
     ensured
-    (stored-as (splitText w (g .choice) (g .name .now)) (C .lines)
-    (stored-more named (stored-as (blockLines w 0 0 (endsOf w (g .choice))) (ap (blockLines w 0 0) (C .ends)) blocks)))
+    (stored-as (splitText (word k) (choice-given k) (name-given k)) (C .lines)
+    (stored-more named (stored-as (blockLines (word k) 0 0 (endsOf (word k) (choice-given k))) (ap (blockLines (word k) 0 0) (C .ends)) lines)))
 
 pub split-lines-spec : {M : Type 1} → statement M
 split-lines-spec =

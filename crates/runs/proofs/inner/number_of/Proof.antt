@@ -2,7 +2,7 @@
 -- nothing.
 use mathlib.Core.Path.{_≡_, ap, _∙_}
 use mathlib.Core.List.{List}
-use Prim.Native.Nat.{_-_, _≤_}
+use Prim.Native.Nat.{ℕ, _-_, _≤_}
 use native.Mathlib.Omega.{arith}
 use borrow.Author.Needs.{needs}
 use lib.ListN.{length}
@@ -15,22 +15,34 @@ use Rattle.runs.proofs.Records.{records-left, period-place-most, number
 use Rattle.runs.proofs.inner.number_of.Statement.{statement}
 use Rattle.runs.proofs.inner.number_of.Tie as tie
 
--- the runs after the boundary, and how many there are at most
-abbrev rows-of : tie.After-with-period → List Row
-rows-of c = rowsAt (c .before .before .before .before .before .before .before .before .before .before .before .before .before .args .w .now) (c .before .before .before .before .before .before .before .before .before .before .before .before .before .args .a) (length (c .before .before .before .before .before .before .before .before .before .before .before .before .before .args .w .now) - c .before .before .before .before .before .before .before .before .before .before .before .before .before .args .a)
+-- once the place is looked up: the arguments, and the runs after the boundary
+abbrev Placed : Type 0
+Placed = tie.After-with-period
 
-rows-most : (c : tie.After-with-period) → length (rows-of c) ≤ length (c .before .before .before .before .before .before .before .before .before .before .before .before .before .args .w .now)
-rows-most c = omega (arith, rows-at-most (c .before .before .before .before .before .before .before .before .before .before .before .before .before .args .w .now) (c .before .before .before .before .before .before .before .before .before .before .before .before .before .args .a) (length (c .before .before .before .before .before .before .before .before .before .before .before .before .before .args .w .now) - c .before .before .before .before .before .before .before .before .before .before .before .before .before .args .a))
+abbrev word : Placed → List ℕ
+word c = c .before .before .before .before .before .before .before .before .before .before .before .before .before .args .w .now
+
+abbrev start : Placed → ℕ
+start c = c .before .before .before .before .before .before .before .before .before .before .before .before .before .args .a
+
+abbrev period-given : Placed → ℕ
+period-given c = c .before .before .before .before .before .before .before .before .before .before .before .before .before .args .period
+
+abbrev runs-after : Placed → List Row
+runs-after c = rowsAt (word c) (start c) (length (word c) - start c)
+
+rows-most : (c : Placed) → length (runs-after c) ≤ length (word c)
+rows-most c = omega (arith, rows-at-most (word c) (start c) (length (word c) - start c))
 
 -- the place that was found is that among them
-place : (c : tie.After-with-period) → c .with-period .result ≡ withPeriod (c .before .before .before .before .before .before .before .before .before .before .before .before .before .args .period) (rows-of c)
+place : (c : Placed) → c .with-period .result ≡ withPeriod (period-given c) (runs-after c)
 place c =
     let r = c .before .before .before .before .before .before .rows-at in
     c .with-period .ensures
-    ∙ ap (withPeriod (c .before .before .before .before .before .before .before .before .before .before .before .before .before .args .period)) (records-left (rows-of c) (c .before .before .before .before .before .before .before .before .before .before .before .before .before .args .rows .now) _ (r .result) (r .ensures .0) (r .ensures .1 .0) (omega (arith, rows-most c)))
+    ∙ ap (withPeriod (period-given c)) (records-left (runs-after c) (c .before .before .before .before .before .before .before .before .before .before .before .before .before .args .rows .now) _ (r .result) (r .ensures .0) (r .ensures .1 .0) (omega (arith, rows-most c)))
 
-place-most : (c : tie.After-with-period) → c .with-period .result ≤ limit
-place-most c = omega (arith, place c, period-place-most (c .before .before .before .before .before .before .before .before .before .before .before .before .before .args .period) (rows-of c), rows-most c)
+place-most : (c : Placed) → c .with-period .result ≤ limit
+place-most c = omega (arith, place c, period-place-most (period-given c) (runs-after c), rows-most c)
 
 rows-at-requires : tie.Need-rows-at-requires
 rows-at-requires c κs = search needs
@@ -51,9 +63,9 @@ same-length-2 c = search needs
 
 returns : tie.Need-returns
 returns c =
-    let g = c .before .before .before .before .before .before .before .before .before .before .before .before .before .before .args in
+    let t = c .before in
     let r = c .before .before .before .before .before .before .before .rows-at in
-    (number-none (g .w .now) (g .a) (g .period) (c .before .with-period .result) (place (c .before)) (c .if1 .taken), (r .ensures .1 .1, r .ensures .1 .0))
+    (number-none (word t) (start t) (period-given t) (t .with-period .result) (place t) (c .if1 .taken), (r .ensures .1 .1, r .ensures .1 .0))
 
 mul-result : tie.Need-mul-result
 mul-result c = search needs
@@ -65,7 +77,9 @@ cast-result : tie.Need-cast-result
 cast-result c = omega (arith, place-most (c .before .before))
 
 add-result : tie.Need-add-result
-add-result c = omega (arith, place-most (c .before .before), c .before .before .before .before .before .before .before .before .before .before .before .before .before .before .before .pre .5, rows-before-at-most (c .before .before .before .before .before .before .before .before .before .before .before .before .before .before .before .args .w .now) (c .before .before .before .before .before .before .before .before .before .before .before .before .before .before .before .args .a) (omega arith))
+add-result c =
+    let t = c .before .before in
+    omega (arith, place-most t, c .before .before .before .before .before .before .before .before .before .before .before .before .before .before .before .pre .5, rows-before-at-most (word t) (start t) (omega arith))
 
 same-length-3 : tie.Need-same-length-3
 same-length-3 c = search needs
@@ -75,9 +89,11 @@ same-length-4 c = search needs
 
 returns-2 : tie.Need-returns-2
 returns-2 c =
-    let g = c .before .before .before .before .before .before .before .before .before .before .before .before .before .before .before .args in
-    let r = c .before .before .before .before .before .before .before .before .rows-at in
-    (number-some (g .w .now) (g .a) (g .period) (c .before .before .with-period .result) _ (place (c .before .before)) (c .before .if1 .left) (c .before .before .before .before .before .before .before .before .before .before .before .before .before .before .before .pre .5), (r .ensures .1 .1, r .ensures .1 .0))
+    let t = c .before .before in
+    let r = c .before .before .before .before .before .before .before .before .rows-at in (
+      number-some (word t) (start t) (period-given t) (t .with-period .result) _ (place t) (c .before .if1 .left) (c .before .before .before .before .before .before .before .before .before .before .before .before .before .before .before .pre .5),
+      (r .ensures .1 .1, r .ensures .1 .0),
+    )
 
 pub number-of-spec : {M : Type 1} → statement M
 number-of-spec =

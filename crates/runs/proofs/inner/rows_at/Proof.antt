@@ -22,28 +22,49 @@ Inv-loop w a units table₀ at n count₀ b₀ table count b = (a < b) × (b ≤
 abbrev μ-loop : tie.MeasureT-loop
 μ-loop w a units table₀ at n count₀ b₀ table count b = n + 1 - b
 
--- the units after the call
-units-are : (c : tie.At-loop Inv-loop μ-loop) → c .before .before .before .units .last .1 .0 ≡ unitsAt (c .before .before .before .before .before .before .before .before .before .args .w .now) (c .before .before .before .before .before .before .before .before .before .args .a) (c .before .before .before .before .before .before .before .before .before .args .units .now)
-units-are c = c .before .before .before .units .ensures ∙ units-left (c .before .before .before .before .before .before .before .before .before .args .w .now) (c .before .before .before .before .before .before .before .before .before .args .units .now) (c .before .before .before .before .before .before .before .before .before .args .a)
+-- in a turn of the loop: the arguments, and the units that the call left
+abbrev Turn : Type 0
+Turn = tie.At-loop Inv-loop μ-loop
 
-units-length : (c : tie.At-loop Inv-loop μ-loop) → length (c .before .before .before .units .last .1 .0) ≡ length (c .before .before .before .before .before .before .before .before .before .args .units .now)
+abbrev word : Turn → List ℕ
+word c = c .before .before .before .before .before .before .before .before .before .args .w .now
+
+abbrev start : Turn → ℕ
+start c = c .before .before .before .before .before .before .before .before .before .args .a
+
+abbrev first-number : Turn → ℕ
+first-number c = c .before .before .before .before .before .before .before .before .before .args .at
+
+abbrev scratch : Turn → List ℕ
+scratch c = c .before .before .before .before .before .before .before .before .before .args .units .now
+
+abbrev table-lent : Turn → List ℕ
+table-lent c = c .before .before .before .before .before .before .before .before .before .args .table .now
+
+abbrev found : Turn → List ℕ
+found c = c .before .before .before .units .last .1 .0
+
+-- the place of the unit of the part up to boundary b
+abbrev place : Turn → ℕ
+place c = c .loop .b - start c - 1
+
+units-are : (c : Turn) → found c ≡ unitsAt (word c) (start c) (scratch c)
+units-are c = c .before .before .before .units .ensures ∙ units-left (word c) (scratch c) (start c)
+
+units-length : (c : Turn) → length (found c) ≡ length (scratch c)
 units-length c = c .before .before .before .units .kept .1 .0
 
--- what is read is the smallest period of the part up to boundary b
-unit-read : (c : tie.At-loop Inv-loop μ-loop) → c .before .before .before .before .before .before .before .before .before .args .a < c .loop .b → c .loop .b ≤ length (c .before .before .before .before .before .before .before .before .before .args .w .now)
-    → getD (c .before .before .before .units .last .1 .0) (c .loop .b - c .before .before .before .before .before .before .before .before .before .args .a - 1) 0 ≡ smallestPeriod (part (c .before .before .before .before .before .before .before .before .before .args .w .now) (c .before .before .before .before .before .before .before .before .before .args .a) (c .loop .b))
-unit-read c h k =
-    ap (λ (u : List ℕ). getD u (c .loop .b - c .before .before .before .before .before .before .before .before .before .args .a - 1) 0) (units-are c)
-    ∙ units-place (c .before .before .before .before .before .before .before .before .before .args .w .now) (c .before .before .before .before .before .before .before .before .before .args .units .now) (c .before .before .before .before .before .before .before .before .before .args .a) (c .loop .b) h k
+-- what is read is the smallest period of that part
+unit-read : (c : Turn) → start c < c .loop .b → c .loop .b ≤ length (word c) → getD (found c) (place c) 0 ≡ smallestPeriod (part (word c) (start c) (c .loop .b))
+unit-read c h k = ap (λ (u : List ℕ). getD u (place c) 0) (units-are c) ∙ units-place (word c) (scratch c) (start c) (c .loop .b) h k
 
 -- it is at most the length of the part
-unit-bound : (c : tie.At-loop Inv-loop μ-loop) → c .before .before .before .before .before .before .before .before .before .args .a < c .loop .b → c .loop .b ≤ length (c .before .before .before .before .before .before .before .before .before .args .w .now)
-    → getD (c .before .before .before .units .last .1 .0) (c .loop .b - c .before .before .before .before .before .before .before .before .before .args .a - 1) 0 ≤ c .loop .b
-unit-bound c h k = omega (arith, unit-read c h k, part-smallest (c .before .before .before .before .before .before .before .before .before .args .w .now) (c .before .before .before .before .before .before .before .before .before .args .a) (c .loop .b) k h .period .fits)
+unit-bound : (c : Turn) → start c < c .loop .b → c .loop .b ≤ length (word c) → getD (found c) (place c) 0 ≤ c .loop .b
+unit-bound c h k = omega (arith, unit-read c h k, part-smallest (word c) (start c) (c .loop .b) k h .period .fits)
 
 -- the count stays small
-count-bound : (c : tie.At-loop Inv-loop μ-loop) → c .loop .count ≤ c .before .before .before .before .before .before .before .before .before .args .at + (c .loop .b - c .before .before .before .before .before .before .before .before .before .args .a - 1)
-count-bound c = omega (arith, c .loop .inv .2, rows-at-most (c .before .before .before .before .before .before .before .before .before .args .w .now) (c .before .before .before .before .before .before .before .before .before .args .a) (c .loop .b - c .before .before .before .before .before .before .before .before .before .args .a - 1))
+count-bound : (c : Turn) → c .loop .count ≤ first-number c + place c
+count-bound c = omega (arith, c .loop .inv .2, rows-at-most (word c) (start c) (place c))
 
 sub-units : tie.Need-sub-units Inv-loop μ-loop
 sub-units c = search needs
@@ -55,7 +76,9 @@ part-units-end : tie.Need-part-units-end Inv-loop μ-loop
 part-units-end c = search needs
 
 units-requires : tie.Need-units-requires Inv-loop μ-loop
-units-requires c κs = omega (arith, part-long (c .before .before .before .before .before .args .w .now) (c .before .before .before .before .before .args .a) (length (c .before .before .before .before .before .args .w .now)) (omega arith))
+units-requires c κs =
+    let g = c .before .before .before .before .before .args in
+    omega (arith, part-long (g .w .now) (g .a) (length (g .w .now)) (omega arith))
 
 add-b : tie.Need-add-b Inv-loop μ-loop
 add-b c = omega arith
@@ -91,10 +114,10 @@ loop-less c = omega arith
 
 loop-again : tie.Need-loop-again Inv-loop μ-loop
 loop-again c =
-    let g = c .before .before .before .before .before .before .before .before .before .before .before .before .before .args in
-    let l = c .before .before .before .before .loop in
-    let e : rowsAt (g .w .now) (g .a) (l .b + 1 - g .a - 1) ≡ rowsAt (g .w .now) (g .a) (l .b - g .a - 1) = rows-skip (g .w .now) (g .a) (l .b) (omega arith) (sym (c .before .is-run .ensures) ∙ not-true _ (c .if1 .taken)) in
-    (omega arith, omega arith, rw e (l .inv .2), rw e (l .inv .3))
+    let t = c .before .before .before .before in
+    let e : rowsAt (word t) (start t) (t .loop .b + 1 - start t - 1) ≡ rowsAt (word t) (start t) (place t) =
+    rows-skip (word t) (start t) (t .loop .b) (omega arith) (sym (c .before .is-run .ensures) ∙ not-true _ (c .if1 .taken)) in
+    (omega arith, omega arith, rw e (t .loop .inv .2), rw e (t .loop .inv .3))
 
 add-put : tie.Need-add-put Inv-loop μ-loop
 add-put c = omega arith
@@ -122,29 +145,31 @@ loop-less-2 c = omega arith
 
 loop-again-2 : tie.Need-loop-again-2 Inv-loop μ-loop
 loop-again-2 c =
-    let g = c .before .before .before .before .before .before .before .before .before .before .before .before .before .before .before .before .before .args in
-    let l = c .before .before .before .before .before .before .before .before .loop in
-    let row : Row = record { first = g .a + 1; last = l .b; period = getD (c .before .before .before .before .before .before .before .before .before .before .before .units .last .1 .0) (l .b - g .a - 1) 0 } in
-    let e : rowsAt (g .w .now) (g .a) (l .b + 1 - g .a - 1) ≡ rowsAt (g .w .now) (g .a) (l .b - g .a - 1) ++ (row ∷ []) =
-    rows-add (g .w .now) (g .a) (l .b) _ (omega arith) (unit-read (c .before .before .before .before .before .before .before .before) (omega arith) (omega arith)) (sym (c .before .before .before .before .before .is-run .ensures) ∙ not-false _ (c .before .before .before .before .if1 .left)) in (
+    let t = c .before .before .before .before .before .before .before .before in
+    let tested = c .before .before .before .before in
+    let before = rowsAt (word t) (start t) (place t) in
+    let row : Row = record { first = start t + 1; last = t .loop .b; period = getD (found t) (place t) 0 } in
+    let e : rowsAt (word t) (start t) (t .loop .b + 1 - start t - 1) ≡ before ++ (row ∷ []) =
+    rows-add (word t) (start t) (t .loop .b) _ (omega arith) (unit-read t (omega arith) (omega arith)) (sym (tested .before .is-run .ensures) ∙ not-false _ (tested .if1 .left)) in (
       omega arith,
       omega arith,
-      omega (arith, l .inv .2, ap length e, length-append (rowsAt (g .w .now) (g .a) (l .b - g .a - 1)) (row ∷ [])),
-      c .before .before .put .ensures ∙ rw (l .inv .2, l .inv .3, e) (sym (put-rows (g .table .now) (g .at) (rowsAt (g .w .now) (g .a) (l .b - g .a - 1)) (row ∷ []))),
+      omega (arith, t .loop .inv .2, ap length e, length-append before (row ∷ [])),
+      c .before .before .put .ensures ∙ rw (t .loop .inv .2, t .loop .inv .3, e) (sym (put-rows (table-lent t) (first-number t) before (row ∷ []))),
     )
 
 same-length : tie.Need-same-length Inv-loop μ-loop
 same-length c = units-length (c .before)
 
 same-length-2 : tie.Need-same-length-2 Inv-loop μ-loop
-same-length-2 c = ap length (c .before .loop .inv .3) ∙ length-sets (c .before .before .before .before .before .before .before .before .before .before .args .table .now) (stride * c .before .before .before .before .before .before .before .before .before .before .args .at) (flat (rowsAt (c .before .before .before .before .before .before .before .before .before .before .args .w .now) (c .before .before .before .before .before .before .before .before .before .before .args .a) (c .before .loop .b - c .before .before .before .before .before .before .before .before .before .before .args .a - 1)))
+same-length-2 c =
+    let t = c .before in
+    ap length (t .loop .inv .3) ∙ length-sets (table-lent t) (stride * first-number t) (flat (rowsAt (word t) (start t) (place t)))
 
 returns : tie.Need-returns Inv-loop μ-loop
 returns c =
-    let g = c .before .before .before .before .before .before .before .before .before .before .args in
-    let l = c .before .loop in
-    let e : l .b - g .a - 1 ≡ length (g .w .now) - g .a = omega arith in
-    (rw e at (l .inv .2), (rw e at (l .inv .3), units-are (c .before)))
+    let t = c .before in
+    let e : place t ≡ length (word t) - start t = omega arith in
+    (rw e at (t .loop .inv .2), (rw e at (t .loop .inv .3), units-are t))
 
 pub rows-at-spec : {M : Type 1} → statement M
 rows-at-spec =

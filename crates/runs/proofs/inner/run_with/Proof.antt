@@ -1,35 +1,51 @@
 -- `runs::inner::run_with` meets its contract: the counts locate the boundary, and the record is read where the runs after it are stored. Assumes nothing.
 use mathlib.Core.Path.{_≡_, ap}
+use mathlib.Core.List.{List}
 use Prim.Native.Nat.{ℕ, suc, _+_, _-_, _*_, _≤_, _<_}
 use native.Mathlib.Omega.{arith}
 use borrow.Author.Needs.{needs}
 use lib.ListN.{length, getD}
+use Rattle.runs.specs.Run.{Row}
 use Rattle.runs.specs.Table.{rowsAt, rowsBefore, runsOf, stride}
 use Rattle.runs.proofs.Rows.{rows-at-most, before-none, count-more}
 use Rattle.runs.proofs.Records.{entry-none, entry-past, run-looked-up, none-looked-up}
 use Rattle.runs.proofs.inner.run_with.Statement.{statement}
 use Rattle.runs.proofs.inner.run_with.Tie as tie
 
--- the boundary, and the place of the run among those after it
-abbrev start : tie.After-locate → ℕ
+-- once the boundary is known: the arguments, the boundary, the runs after it, and the place of the record among them
+abbrev Located : Type 0
+Located = tie.After-locate
+
+abbrev word : Located → List ℕ
+word c = c .before .before .before .before .before .before .before .before .args .w .now
+
+abbrev number : Located → ℕ
+number c = c .before .before .before .before .before .before .before .before .args .number
+
+abbrev start : Located → ℕ
 start c = c .locate .result
 
-abbrev place : tie.After-locate → ℕ
-place c = c .before .before .before .before .before .before .before .before .args .number - getD (c .before .before .before .before .before .before .before .before .args .counts .now) (start c) 0 - 1
+abbrev runs-after : Located → List Row
+runs-after c = rowsAt (word c) (start c) (length (word c) - start c)
 
-place-is : (c : tie.After-locate) → c .before .before .before .before .before .before .before .before .args .number ≡ length (rowsBefore (c .before .before .before .before .before .before .before .before .args .w .now) (start c)) + suc (place c)
-place-is c = omega (arith, c .locate .ensures, c .before .before .before .before .before .before .before .before .pre .4 (start c) (omega (arith, c .locate .ensures)))
+abbrev place : Located → ℕ
+place c = number c - getD (c .before .before .before .before .before .before .before .before .args .counts .now) (start c) 0 - 1
 
-place-few : (c : tie.After-locate) → place c < length (rowsAt (c .before .before .before .before .before .before .before .before .args .w .now) (start c) (length (c .before .before .before .before .before .before .before .before .args .w .now) - start c))
+-- what the counts say
+counted : (c : Located) (a : ℕ) → a ≤ length (word c) → getD (c .before .before .before .before .before .before .before .before .args .counts .now) a 0 ≡ length (rowsBefore (word c) a)
+counted c a h = c .before .before .before .before .before .before .before .before .pre .4 a h
+
+place-is : (c : Located) → number c ≡ length (rowsBefore (word c) (start c)) + suc (place c)
+place-is c = omega (arith, c .locate .ensures, counted c (start c) (omega (arith, c .locate .ensures)))
+
+place-few : (c : Located) → place c < length (runs-after c)
 place-few c =
-    let g = c .before .before .before .before .before .before .before .before .args in
-    omega (arith, c .locate .ensures, c .before .before .before .before .before .before .before .before .pre .4 (start c) (omega (arith, c .locate .ensures)), c .before .before .before .before .before .before .before .before .pre .4 (start c + 1) (omega (arith, c .locate .ensures)), count-more (g .w .now) (start c))
+    let l = c .locate .ensures in
+    omega (arith, l, counted c (start c) (omega (arith, l)), counted c (start c + 1) (omega (arith, l)), count-more (word c) (start c))
 
 -- the lent table has the room
-rows-room : (c : tie.After-locate) → stride * length (rowsAt (c .before .before .before .before .before .before .before .before .args .w .now) (start c) (length (c .before .before .before .before .before .before .before .before .args .w .now) - start c)) ≤ length (c .before .before .before .before .before .before .before .before .args .rows .now)
-rows-room c =
-    let g = c .before .before .before .before .before .before .before .before .args in
-    omega (arith, rows-at-most (g .w .now) (start c) (length (g .w .now) - start c))
+rows-room : (c : Located) → stride * length (runs-after c) ≤ length (c .before .before .before .before .before .before .before .before .args .rows .now)
+rows-room c = omega (arith, rows-at-most (word c) (start c) (length (word c) - start c))
 
 returns : tie.Need-returns
 returns c =
@@ -45,13 +61,15 @@ shared-slice-read-if2 c = search needs
 returns-2 : tie.Need-returns-2
 unfolding runsOf
 returns-2 c =
-    let g = c .before .before .before .before .before .before .before .args in
-    none-looked-up (g .w .now) (g .units .now) (g .rows .now) (g .number) (entry-past (runsOf (g .w .now)) (g .number) (omega (arith, c .before .before .before .before .before .before .before .pre .4 (length (g .w .now)) (omega arith), c .if2 .taken)))
+    let b = c .before .before .before .before .before .before .before in
+    let g = b .args in
+    none-looked-up (g .w .now) (g .units .now) (g .rows .now) (g .number)
+    (entry-past (runsOf (g .w .now)) (g .number) (omega (arith, b .pre .4 (length (g .w .now)) (omega arith), c .if2 .taken)))
 
 locate-requires : tie.Need-locate-requires
 locate-requires c κs =
-    let g = c .before .before .before .before .before .before .before .args in
-    (omega arith, omega (arith, c .before .before .before .before .before .before .before .pre .4 0 (omega arith), ap length (before-none (g .w .now)), c .before .before .if1 .left), c .if2 .left)
+    let b = c .before .before .before .before .before .before .before in
+    (omega arith, omega (arith, b .pre .4 0 (omega arith), ap length (before-none (b .args .w .now)), c .before .before .if1 .left), c .if2 .left)
 
 rows-at-requires : tie.Need-rows-at-requires
 rows-at-requires c κs = search needs
@@ -78,7 +96,9 @@ mul-t11 : tie.Need-mul-t11
 mul-t11 c = search needs
 
 slice-read-t13 : tie.Need-slice-read-t13
-slice-read-t13 c = omega (arith, rows-room (c .before .before .before .before .before .before .before .before .before), place-few (c .before .before .before .before .before .before .before .before .before), c .before .before .before .before .before .before .rows-at .kept .1 .1 .1 .0)
+slice-read-t13 c =
+    let l = c .before .before .before .before .before .before .before .before .before in
+    omega (arith, rows-room l, place-few l, c .before .before .before .before .before .before .rows-at .kept .1 .1 .1 .0)
 
 add-t20 : tie.Need-add-t20
 add-t20 c = search needs
@@ -87,7 +107,9 @@ mul-t22 : tie.Need-mul-t22
 mul-t22 c = search needs
 
 slice-read-t19 : tie.Need-slice-read-t19
-slice-read-t19 c = omega (arith, rows-room (c .before .before .before .before .before .before .before .before .before .before), place-few (c .before .before .before .before .before .before .before .before .before .before), c .before .before .before .before .before .before .before .rows-at .kept .1 .1 .1 .0)
+slice-read-t19 c =
+    let l = c .before .before .before .before .before .before .before .before .before .before in
+    omega (arith, rows-room l, place-few l, c .before .before .before .before .before .before .before .rows-at .kept .1 .1 .1 .0)
 
 add-t24 : tie.Need-add-t24
 add-t24 c = search needs
@@ -96,7 +118,9 @@ mul-t25 : tie.Need-mul-t25
 mul-t25 c = search needs
 
 slice-read-t27 : tie.Need-slice-read-t27
-slice-read-t27 c = omega (arith, rows-room (c .before .before .before .before .before .before .before .before .before .before .before), place-few (c .before .before .before .before .before .before .before .before .before .before .before), c .before .before .before .before .before .before .before .before .rows-at .kept .1 .1 .1 .0)
+slice-read-t27 c =
+    let l = c .before .before .before .before .before .before .before .before .before .before .before in
+    omega (arith, rows-room l, place-few l, c .before .before .before .before .before .before .before .before .rows-at .kept .1 .1 .1 .0)
 
 same-length : tie.Need-same-length
 same-length c = search needs
@@ -106,10 +130,11 @@ same-length-2 c = search needs
 
 returns-3 : tie.Need-returns-3
 returns-3 c =
-    let g = c .before .before .before .before .before .before .before .before .before .before .before .before .before .before .before .before .before .before .before .args in
+    let l = c .before .before .before .before .before .before .before .before .before .before .before in
     let r = c .before .before .before .before .before .before .before .before .rows-at in
-    let k = c .before .before .before .before .before .before .before .before .before .before .before in
-    run-looked-up (g .w .now) (g .units .now) _ (g .rows .now) _ (start k) (place k) (g .number) (omega (arith, k .locate .ensures)) (place-few k) (rows-room k) (r .ensures .1 .1) (r .ensures .1 .0) (place-is k)
+    let g = c .before .before .before .before .before .before .before .before .before .before .before .before .before .before .before .before .before .before .before .args in
+    run-looked-up (word l) (g .units .now) _ (g .rows .now) _ (start l) (place l) (number l) (omega (arith, l .locate .ensures)) (place-few l) (rows-room l)
+    (r .ensures .1 .1) (r .ensures .1 .0) (place-is l)
 
 pub run-with-spec : {M : Type 1} → statement M
 run-with-spec =
