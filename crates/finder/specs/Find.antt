@@ -12,8 +12,8 @@ abbrev pub recordLimit : ℕ
 recordLimit = 1024
 
 -- the bounds lo to hi enclose first to last, and the periods are the same
-abbrev pub enclosesb : ℕ → ℕ → ℕ → ℕ → ℕ → ℕ → Bool
-enclosesb lo hi p first last period = leb lo first && (leb last hi && eqb p period)
+abbrev pub enclosing? : ℕ → ℕ → ℕ → ℕ → ℕ → ℕ → Bool
+enclosing? lo hi p first last period = leb lo first && (leb last hi && eqb p period)
 
 -- 0 where the head is taken, one more than t otherwise
 abbrev pub step : Bool → ℕ → ℕ
@@ -23,7 +23,7 @@ step false t = suc t
 -- the index of the first record that encloses first to last and has the period; the length where there is none
 abbrev pub findRun : List Run → ℕ → ℕ → ℕ → ℕ
 findRun [] first last period = zero
-findRun (r ∷ rs) first last period = step (enclosesb (r .first) (r .last) (r .period) first last period) (findRun rs first last period)
+findRun (r ∷ rs) first last period = step (enclosing? (r .first) (r .last) (r .period) first last period) (findRun rs first last period)
 
 -- the same over the first count records
 abbrev pub findIn : List Run → ℕ → ℕ → ℕ → ℕ → ℕ

@@ -1,7 +1,7 @@
 // The finder over a lent slice of run records. The borrow checker covers no function that has a
 // slice of structs, so find_run and inner::find_in are proved by hand; everything else here is covered.
 ghost use mathlib.Core.Path.{_≡_};
-ghost use Rattle.finder.specs.Find.{enclosesb, findRun};
+ghost use Rattle.finder.specs.Find.{enclosing?, findRun};
 
 pub mod inner;
 
@@ -17,7 +17,7 @@ pub struct Run {
 
 // Whether the bounds lo to hi enclose first to last, and the periods are the same.
 pub fn encloses(lo: u32, hi: u32, p: u32, first: u32, last: u32, period: u32) -> bool
-    ensures { λ r. ⌜ r ≡ enclosesb lo hi p first last period ⌝ }
+    ensures { λ r. ⌜ r ≡ enclosing? lo hi p first last period ⌝ }
 {
     if lo <= first {
         if last <= hi {

@@ -54,7 +54,7 @@ fn write_ends(ends: &[u32], out: &mut [u8])
 }
 
 // Writes the line of n and ends to the front of the bytes.
-pub fn write_line(n: u32, ends: &[u32], out: &mut [u8])
+pub(crate) fn write_line(n: u32, ends: &[u32], out: &mut [u8])
     requires { ⌜ (bytesFor (length (now ends)) ≤ length (now out)) × (length (now ends) < 2 ^ 32) ⌝ }
     ensures { λ _. ⌜ now (out .exit) ≡ sets (now (out .entry)) 0 (line n (now (ends .entry))) ⌝ }
 {
@@ -67,7 +67,7 @@ pub fn write_line(n: u32, ends: &[u32], out: &mut [u8])
 }
 
 // The number at a place where four digits stand.
-pub fn number(s: &[u8], at: usize) -> u32
+pub(crate) fn number(s: &[u8], at: usize) -> u32
     requires { ⌜ (at + width ≤ length (now s)) × T (digits? (field (now s) at width)) ⌝ }
     ensures { λ r. ⌜ r ≡ numberAt (now (s .entry)) at ⌝ }
 {
@@ -78,7 +78,7 @@ pub fn number(s: &[u8], at: usize) -> u32
 }
 
 // Whether a comma stands before a place and four digits from it on.
-pub fn field_at(s: &[u8], at: usize) -> bool
+pub(crate) fn field_at(s: &[u8], at: usize) -> bool
     requires { ⌜ (1 ≤ at) × (at + width ≤ length (now s)) ⌝ }
     ensures { λ r. ⌜ r ≡ field? (now (s .entry)) at ⌝ }
 {
@@ -92,7 +92,7 @@ pub fn field_at(s: &[u8], at: usize) -> bool
 }
 
 // Whether so many ends stand at their places, each after a comma.
-pub fn ends_at(s: &[u8], count: usize) -> bool
+pub(crate) fn ends_at(s: &[u8], count: usize) -> bool
     requires { ⌜ bytesFor count ≤ length (now s) ⌝ }
     ensures { λ r. ⌜ r ≡ ends? (now (s .entry)) count ⌝ }
 {
@@ -107,7 +107,7 @@ pub fn ends_at(s: &[u8], count: usize) -> bool
 }
 
 // The refusals 1, 3 and 5 of n and the ends that stand in a line; where there is none, their count.
-pub fn judge_line(s: &[u8], n: u32, count: usize) -> Counted
+pub(crate) fn judge_line(s: &[u8], n: u32, count: usize) -> Counted
     requires { ⌜ (bytesFor count ≤ length (now s)) × T (ends? (now s) count) ⌝ }
     ensures { λ r. ⌜ countedView r ≡ plausible n (endsIn (now (s .entry)) count) ⌝ }
 {
@@ -134,7 +134,7 @@ pub fn judge_line(s: &[u8], n: u32, count: usize) -> Counted
 }
 
 // Writes the ends that stand in a line to the front of a table.
-pub fn read_ends(s: &[u8], count: usize, table: &mut [u32])
+pub(crate) fn read_ends(s: &[u8], count: usize, table: &mut [u32])
     requires { ⌜ (bytesFor count ≤ length (now s)) × T (ends? (now s) count) × (count ≤ length (now table)) ⌝ }
     ensures { λ _. ⌜ now (table .exit) ≡ endsIn (now (s .entry)) count ++ drop count (now (table .entry)) ⌝ }
 {

@@ -49,7 +49,7 @@ fn spread(work: &mut [u32], n: usize, choice: u32, j: usize, size: u32)
 
 // Fills the working table: the best size of each prefix length, and the previous boundary that it
 // came from. Boundaries in rising order; one that is not reached offers nothing.
-pub fn fill(w: &[u8], choice: u32, work: &mut [u32])
+fn fill(w: &[u8], choice: u32, work: &mut [u32])
     requires { ⌜ (length (now w) ≤ limit) × (rows * (length (now w) + 1) ≤ length (now work)) ⌝ }
     ensures { λ _. ⌜ now (work .exit) ≡ filled (choiceOf choice) (block? anyPeriod turns (now (w .entry))) (length (now (w .entry))) (now (work .entry)) ⌝ }
 {
@@ -96,7 +96,7 @@ fn hand_out(work: &[u32], n: usize, ends: &mut [u32]) -> Counted
 
 // Best split where 1, 8 and 9 are not met: fills the table, hands out the answer, and clears the row
 // of previous boundaries.
-pub fn settle(w: &[u8], choice: u32, ends: &mut [u32], work: &mut [u32]) -> Counted
+pub(crate) fn settle(w: &[u8], choice: u32, ends: &mut [u32], work: &mut [u32]) -> Counted
     requires { ⌜ (length (now w) ≤ limit) × (rows * (length (now w) + 1) ≤ length (now work)) ⌝ }
     ensures { λ r. ⌜ countedView r ≡ sizeOutcome (lastCell (now (w .entry)) choice) (length (now (ends .entry))) ⌝ }
     ensures { λ _. ⌜ now (ends .exit) ≡ sizeEnds (lastCell (now (w .entry)) choice) (bestEnds (choiceOf choice) (block? anyPeriod turns (now (w .entry))) (length (now (w .entry)))) (now (ends .entry)) ⌝ }
@@ -127,7 +127,7 @@ fn left_end(w: &[u8], i: usize, p: usize) -> usize
 }
 
 // Writes the run number of each block of a factorization. The runs are counted once, for all blocks.
-pub fn number_blocks(w: &[u8], ends: &[u32], table: &mut [u32])
+pub(crate) fn number_blocks(w: &[u8], ends: &[u32], table: &mut [u32])
     requires { ⌜ (length (now w) ≤ limit) × Factorization (Block anyPeriod turns (now w)) (length (now w)) (now ends) × (length (now ends) ≤ length (now table)) ⌝ }
     ensures { λ _. ⌜ now (table .exit) ≡ runNumbers (now (w .entry)) 0 (now (ends .entry)) ++ drop (length (now (ends .entry))) (now (table .entry)) ⌝ }
 {
@@ -168,7 +168,7 @@ fn lies_in(found: Found, i: usize, j: usize) -> bool
 
 // The verdict on a path with an even count of numbers. Each run is worked out from the symbols, never
 // believed; the runs are counted once, for all blocks.
-pub fn follow(w: &[u8], numbers: &[u32]) -> Counted
+pub(crate) fn follow(w: &[u8], numbers: &[u32]) -> Counted
     requires { ⌜ (length (now w) ≤ limit) × (length (now numbers) % 2 ≡ 0) ⌝ }
     ensures { λ r. ⌜ countedView r ≡ verdict (segment? anyPeriod turns (now (w .entry)) (now (numbers .entry))) (length (now (w .entry))) (endsOfPairs (now (numbers .entry))) ⌝ }
 {

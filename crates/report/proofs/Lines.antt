@@ -19,7 +19,7 @@ use Rattle.runs.proofs.Rows.{part-long}
 use Rattle.runs.proofs.Records.{recordAt, records-none, records-more, length-records}
 use Rattle.factors.specs.Factorization.{Chain}
 use Rattle.finder.specs.declared.Run.{Run}
-use Rattle.finder.specs.Find.{enclosesb, step, findRun, recordsOf}
+use Rattle.finder.specs.Find.{enclosing?, step, findRun, recordsOf}
 use Rattle.repetitions.specs.Block.{Block}
 use Rattle.repetitions.specs.Judges.{encloses?, firstNumber, runNumber}
 use Rattle.repetitions.proofs.Blocks.{block-up}
@@ -103,7 +103,7 @@ chain-more B es k i m h c = rw (add-one k) (subst (λ (l : List ℕ). Chain B i 
 
 find-most : (rs : List Run) (first last p : ℕ) → findRun rs first last p ≤ length rs
 find-most [] first last p = omega arith
-find-most (r ∷ rs) first last p = go (enclosesb (r .first) (r .last) (r .period) first last p) (find-most rs first last p)
+find-most (r ∷ rs) first last p = go (enclosing? (r .first) (r .last) (r .period) first last p) (find-most rs first last p)
   where
     go : (b : Bool) → findRun rs first last p ≤ length rs → step b (findRun rs first last p) ≤ suc (length rs)
     go true h = omega arith

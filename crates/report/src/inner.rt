@@ -220,7 +220,7 @@ fn write_text(w: &[u8], table: &[u32], runs: [Run; RECORDS], count: usize, out: 
 
 // The report of a word that the program holds, from the table of its runs: counts the bytes, and
 // writes them where so many are lent.
-pub fn print(w: &[u8], table: &[u32], count: usize, out: &mut [u8]) -> Counted
+pub(crate) fn print(w: &[u8], table: &[u32], count: usize, out: &mut [u8]) -> Counted
     requires { ⌜ (length (now w) ≤ programLimit) × (count ≤ recordLimit) × (stride * count ≤ length (now table)) × (records count (now table) ≡ runsOf (now w)) ⌝ }
     ensures { λ r. ⌜ countedView r ≡ printedOutcome (text (now (w .entry))) (length (now (out .entry))) ⌝ }
     ensures { λ _. ⌜ now (out .exit) ≡ printedTable (text (now (w .entry))) (now (out .entry)) ⌝ }
@@ -236,7 +236,7 @@ pub fn print(w: &[u8], table: &[u32], count: usize, out: &mut [u8]) -> Counted
 }
 
 // The report of a word that is too long.
-pub fn refuse(out: &mut [u8]) -> Counted
+pub(crate) fn refuse(out: &mut [u8]) -> Counted
     ensures { λ r. ⌜ countedView r ≡ printedOutcome refusedText (length (now (out .entry))) ⌝ }
     ensures { λ _. ⌜ now (out .exit) ≡ printedTable refusedText (now (out .entry)) ⌝ }
 {

@@ -64,7 +64,7 @@ fn is_run(w: &[u8], a: usize, b: usize, p: usize) -> bool
 
 // Writes the records of the runs that start after boundary a, from number at on, as far as the
 // table has places, and gives the number after them. Time linear in what follows the boundary.
-pub fn rows_at(w: &[u8], a: usize, units: &mut [u32], table: &mut [u32], at: usize) -> usize
+fn rows_at(w: &[u8], a: usize, units: &mut [u32], table: &mut [u32], at: usize) -> usize
     requires { ⌜ (a < length (now w)) × (length (now w) ≤ limit) × (length (now w) ≤ length (now units)) × (at ≤ a * limit) ⌝ }
     ensures { λ r. ⌜ r ≡ at + length (rowsAt (now (w .entry)) a (length (now (w .entry)) - a)) ⌝ }
     ensures { λ _. ⌜ now (table .exit) ≡ sets (now (table .entry)) (stride * at) (flat (rowsAt (now (w .entry)) a (length (now (w .entry)) - a))) ⌝ }
@@ -88,7 +88,7 @@ pub fn rows_at(w: &[u8], a: usize, units: &mut [u32], table: &mut [u32], at: usi
 }
 
 // Writes the records of all runs, as far as the table has places, and gives their count.
-pub fn enumerate(w: &[u8], units: &mut [u32], table: &mut [u32]) -> usize
+pub(crate) fn enumerate(w: &[u8], units: &mut [u32], table: &mut [u32]) -> usize
     requires { ⌜ (length (now w) ≤ limit) × (length (now w) ≤ length (now units)) ⌝ }
     ensures { λ r. ⌜ r ≡ length (runsOf (now (w .entry))) ⌝ }
     ensures { λ _. ⌜ now (table .exit) ≡ sets (now (table .entry)) 0 (flat (runsOf (now (w .entry)))) ⌝ }
@@ -141,7 +141,13 @@ fn pick(rows: &[u32], count: usize, x: usize, number: usize, out: &mut [u32], at
 
 // Writes the numbers of the runs with a white node at position x, as far as the table has places,
 // and gives their count. A run that starts after position x has none there.
-pub fn nodes_at(w: &[u8], x: usize, units: &mut [u32], rows: &mut [u32], out: &mut [u32]) -> usize
+pub(crate) fn nodes_at(
+    w: &[u8],
+    x: usize,
+    units: &mut [u32],
+    rows: &mut [u32],
+    out: &mut [u32],
+) -> usize
     requires { ⌜ (x ≤ length (now w)) × (length (now w) ≤ limit) × (length (now w) ≤ length (now units)) × (stride * length (now w) ≤ length (now rows)) ⌝ }
     ensures { λ r. ⌜ r ≡ length (nodesAt anyPeriod turns (now (w .entry)) x) ⌝ }
     ensures { λ _. ⌜ now (out .exit) ≡ sets (now (out .entry)) 0 (nodesAt anyPeriod turns (now (w .entry)) x) ⌝ }

@@ -49,7 +49,7 @@ use denote.Triple.Table.{entered, cited}
 use denote.Triple.Walked.{says, Stays, stay-dropped, walkOf, goes-dropped, Walks, ends-at, walked, walk-meets}
 use denote.Exit.{yes}
 use denote.Triple.Clauses.{ensured, lasts}
-use Rattle.finder.specs.Find.{enclosesb, step, findRun}
+use Rattle.finder.specs.Find.{enclosing?, step, findRun}
 use Rattle.finder.specs.declared.Run.{Run}
 use Rattle.finder.proofs.Run as T
 use Rattle.finder.proofs.Run.Laws as T′
@@ -66,7 +66,7 @@ use Rattle.finder.proofs.find_run.Code.Mir as pieces
 -- ---- the list: what is found in xs, where the first i records are passed over
 module _ (f l u : ℕ) (xs : List Run) where
   abbrev hits : Run → Bool
-  hits r = enclosesb (r .first) (r .last) (r .period) f l u
+  hits r = enclosing? (r .first) (r .last) (r .period) f l u
 
   abbrev Reach : ℕ → Type 0
   Reach i = findRun xs f l u ≡ i + findRun (drop i xs) f l u
