@@ -6,11 +6,13 @@ use Prim.Native.Nat.{ℕ}
 use lib.Dec.{lit≤}
 use Rattle.answers.specs.Outcome.{Outcome, refused}
 use Rattle.periods.specs.Part.{PartMeaning}
-use Rattle.runs.specs.Calls.{RunsMeaning, NodesMeaning}
+use Rattle.runs.specs.Calls.{RunsMeaning}
+use Rattle.nodes.specs.Calls.{NodesMeaning}
 use Rattle.factors.specs.Factorization.{Choice}
 use Rattle.factors.specs.Verdict.{VerdictMeaning}
 use Rattle.repetitions.specs.BestSplit.{Answered, BestMeaning}
-use Rattle.repetitions.specs.Judges.{SplitMeaning, PathMeaning, PathJudgedMeaning}
+use Rattle.repetitions.specs.Judge.{SplitMeaning}
+use Rattle.paths.specs.Calls.{PathMeaning, PathJudgedMeaning}
 use Rattle.plans.specs.Calls.{WriteMeaning, ReadMeaning}
 use Rattle.cegridom.proofs.Claims.{HasValues}
 

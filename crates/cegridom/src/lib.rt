@@ -8,9 +8,11 @@ ghost use mathlib.Core.Path.{_≡_};
 ghost use lib.ListN.{length};
 ghost use Rattle.answers.specs.Outcome.{countedView};
 ghost use Rattle.periods.specs.Part.{partView, partOutcome, PartMeaning};
-ghost use Rattle.runs.specs.Calls.{runsOutcome, runsTable, RunsMeaning, nodesOutcome, nodesTable, NodesMeaning};
+ghost use Rattle.runs.specs.Calls.{runsOutcome, runsTable, RunsMeaning};
+ghost use Rattle.nodes.specs.Calls.{nodesOutcome, nodesTable, NodesMeaning};
 ghost use Rattle.repetitions.specs.BestSplit.{bestOutcome, bestEndsTable, bestWork, BestMeaning};
-ghost use Rattle.repetitions.specs.Judges.{splitOutcome, SplitMeaning, pathOutcome, pathTable, PathMeaning, pathJudgedOutcome, PathJudgedMeaning};
+ghost use Rattle.repetitions.specs.Judge.{splitOutcome, SplitMeaning};
+ghost use Rattle.paths.specs.Calls.{pathOutcome, pathTable, PathMeaning, pathJudgedOutcome, PathJudgedMeaning};
 ghost use Rattle.plans.specs.Calls.{planView, writeOutcome, writeTable, WriteMeaning, readOutcome, readTable, ReadMeaning};
 ghost use Rattle.cegridom.specs.Export.{resultOf, indexOf, valueOf};
 use answers::Counted;
@@ -157,7 +159,7 @@ pub extern "C" fn cegridom_nodes(
     ensures written { λ _. ⌜ now (table .exit) ≡ nodesTable (now (w .entry)) position (now (table .entry)) ⌝ }
     ensures meaning { λ _. ⌜ NodesMeaning (now (w .entry)) position (now (table .entry)) (nodesOutcome (now (w .entry)) position (length (now (table .entry)))) (now (table .exit)) ⌝ }
 {
-    let answer = runs::nodes(w, position, table);
+    let answer = nodes::nodes(w, position, table);
     hand_over(answer, count, index)
 }
 
@@ -216,7 +218,7 @@ pub extern "C" fn cegridom_path_of_split(
     ensures written { λ _. ⌜ now (table .exit) ≡ pathTable (now (w .entry)) (now (ends .entry)) (now (table .entry)) ⌝ }
     ensures meaning { λ _. ⌜ PathMeaning (now (w .entry)) (now (ends .entry)) (now (table .entry)) (pathOutcome (now (w .entry)) (now (ends .entry)) (length (now (table .entry)))) (now (table .exit)) ⌝ }
 {
-    let answer = repetitions::path_of_split(w, ends, table);
+    let answer = paths::path_of_split(w, ends, table);
     hand_over(answer, blocks, index)
 }
 
@@ -234,7 +236,7 @@ pub extern "C" fn cegridom_judge_path(
     ensures index { λ _. ⌜ now (index .exit) ≡ indexOf (pathJudgedOutcome (now (w .entry)) (now (numbers .entry))) ⌝ }
     ensures meaning { λ _. ⌜ PathJudgedMeaning (now (w .entry)) (now (numbers .entry)) (pathJudgedOutcome (now (w .entry)) (now (numbers .entry))) ⌝ }
 {
-    let answer = repetitions::judge_path(w, numbers);
+    let answer = paths::judge_path(w, numbers);
     hand_over(answer, blocks, index)
 }
 

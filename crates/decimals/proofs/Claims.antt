@@ -11,7 +11,7 @@ use borrow.Author.Tests.{lt-ltb, le-ltb, le-leb}
 use lib.Dec.{T, leb, ltb, leb→le}
 use lib.ListN.{length, length-append}
 use lib.Seq.{append-snoc}
-use Rattle.answers.proofs.Tests.{and-intro, and-left, and-right}
+use Rattle.laws.proofs.Tests.{and-intro, and-left, and-right}
 use Rattle.decimals.specs.Decimal.{zeroByte, digits, digitCount, plain, digit?, digits?, spelled, value}
 use Rattle.decimals.specs.Read.{numberIn}
 

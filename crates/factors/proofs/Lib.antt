@@ -2,5 +2,6 @@ pub mod Chains
 pub mod Optimal
 pub mod TableLaws
 pub mod VerdictClaims
+pub mod Judging
 pub mod Lent
 pub mod Filling

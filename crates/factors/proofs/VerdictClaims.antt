@@ -12,7 +12,7 @@ use lib.Dec.{T, leb, ltb}
 use lib.ListN.{length, getD, length-append}
 use lib.Seq.{getD-at, append-snoc}
 use borrow.Author.Tests.{le-leb, lt-leb, lt-ltb, le-ltb, eq-eqb, ne-eqb}
-use Rattle.answers.proofs.Tests.{T-true}
+use Rattle.laws.proofs.Tests.{T-true}
 use Rattle.answers.proofs.Claims.{refused-accepted}
 use Rattle.answers.specs.Outcome.{Outcome, accepted, refused}
 use Rattle.factors.specs.Factorization.{Chain, Factorization}

@@ -25,8 +25,14 @@ size es = length es
 pub data Choice : Type 0 where
   smallest largest : Choice
 
+abbrev pub fewest : ℕ
+fewest = 1
+
+abbrev pub most : ℕ
+most = 2
+
 abbrev pub choiceOf : ℕ → Choice
-choiceOf c = cond (eqb c 1) smallest largest
+choiceOf c = cond (eqb c fewest) smallest largest
 
 -- a size s is as good as t, or better
 abbrev pub AsGood : Choice → ℕ → ℕ → Type 0

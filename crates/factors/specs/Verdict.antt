@@ -10,12 +10,16 @@ use Rattle.answers.specs.Outcome.{Outcome, accepted, refused, refusal}
 
 -- A test of blocks is told the block's number from 1, the boundary that it starts after and its end.
 
--- the verdict on the ends from block number k + 1 on, which starts after boundary i: "3: an end not above the one before it (0 before the first), or above n.
--- 4: the piece up to this end is not a block. 5: the last end (0 if there are none) is not n." An accepted proposal is answered "with its number of blocks".
+-- "3: an end not above the one before it (0 before the first), or above n." The one before it is i.
+abbrev pub badEnd? : ℕ → ℕ → ℕ → Bool
+badEnd? n i e = leb e i || ltb n e
+
+-- the verdict on the ends from block number k + 1 on, which starts after boundary i: first 3, then "4: the piece up to this end is not a block", and at last
+-- "5: the last end (0 if there are none) is not n." An accepted proposal is answered "with its number of blocks".
 abbrev pub verdictFrom : (ℕ → ℕ → ℕ → Bool) → ℕ → ℕ → ℕ → List ℕ → Outcome
 verdictFrom block? n k i [] = cond (eqb i n) (accepted (k ∷ [])) (refusal Unfinished)
 verdictFrom block? n k i (e ∷ es) =
-    cond (leb e i || ltb n e) (refusal (BadEnd (suc k)))
+    cond (badEnd? n i e) (refusal (BadEnd (suc k)))
     (cond (block? (suc k) i e) (verdictFrom block? n (suc k) e es) (refusal (NotRepetition (suc k))))
 
 unfoldable pub verdict : (ℕ → ℕ → ℕ → Bool) → ℕ → List ℕ → Outcome

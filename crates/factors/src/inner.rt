@@ -1,7 +1,7 @@
 // For the library's own crates: the caller shows what each function requires.
 ghost use mathlib.Core.Path.{_≡_};
 ghost use mathlib.Core.List.{_++_};
-ghost use Prim.Native.Nat.{_≤_, _<_, _+_, _^_};
+ghost use Prim.Native.Nat.{_≤_, _<_, _^_};
 ghost use lib.ListN.{length, drop, replicate};
 ghost use Rattle.factors.specs.Factorization.{choiceOf};
 ghost use Rattle.factors.specs.Table.{started, offered, endsBack, Linked};
@@ -28,7 +28,7 @@ pub fn offer(work: &mut [u32], choice: u32, at: usize, back: usize, size: u32, j
 {
     let known = work[at];
     if known != super::NONE {
-        if choice == 1 {
+        if choice == super::FEWEST {
             if known <= size {
                 return;
             }

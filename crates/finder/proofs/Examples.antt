@@ -2,14 +2,15 @@
 use mathlib.Core.Path.{_≡_, refl}
 use mathlib.Core.List.{List, [], _∷_}
 use Prim.Native.Nat.{ℕ}
-use Rattle.finder.specs.declared.Run.{Run}
-use Rattle.finder.specs.Find.{findRun, findIn, recordsOf}
+use Rattle.runs.specs.declared.Record.{Record}
+use Rattle.runs.specs.Table.{records}
+use Rattle.finder.specs.Find.{findRun, findIn}
 
 -- the flat table of its four runs, and a number more
 abbrev table : List ℕ
 table = 1 ∷ 2 ∷ 1 ∷ 1 ∷ 8 ∷ 3 ∷ 4 ∷ 5 ∷ 1 ∷ 7 ∷ 8 ∷ 1 ∷ 9 ∷ []
 
-abbrev four : List Run
+abbrev four : List Record
 four =
     record { first = 1; last = 2; period = 1 }
     ∷ record { first = 1; last = 8; period = 3 }
@@ -17,7 +18,8 @@ four =
     ∷ record { first = 7; last = 8; period = 1 }
     ∷ []
 
-pub records-of-aabaabaa : recordsOf table 4 ≡ four
+pub records-of-aabaabaa : records 4 table ≡ four
+unfolding records
 records-of-aabaabaa = refl
 
 -- "block,1,1,8,3,2,2,2" and "block,1,1,2,1,2,0,1": an index from 0 is one below the run's number

@@ -5,15 +5,10 @@ ghost use Rattle.finder.specs.Find.{enclosing?, findRun};
 
 pub mod inner;
 
+use runs::Record;
+
 // How many records the bench program holds.
 pub const RECORDS: usize = 1024;
-
-// The record of a run.
-pub struct Run {
-    pub first: u32,
-    pub last: u32,
-    pub period: u32,
-}
 
 // Whether the bounds lo to hi enclose first to last, and the periods are the same.
 pub fn encloses(lo: u32, hi: u32, p: u32, first: u32, last: u32, period: u32) -> bool
@@ -29,7 +24,7 @@ pub fn encloses(lo: u32, hi: u32, p: u32, first: u32, last: u32, period: u32) ->
 
 // The index of the first record that encloses first to last and has the period; the count of
 // records where there is none.
-pub fn find_run(runs: &[Run], first: u32, last: u32, period: u32) -> usize
+pub fn find_run(runs: &[Record], first: u32, last: u32, period: u32) -> usize
     ensures { λ r. ⌜ r ≡ findRun (now (runs .entry)) first last period ⌝ }
 {
     let mut i = 0;

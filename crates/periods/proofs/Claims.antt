@@ -9,7 +9,7 @@ use native.Mathlib.Decide.{decLt, decLe}
 use lib.Dec.{T, eqb, leb, ltb, eqb→eq, eqb-refl, leb→le, le→leb, ltb→lt, lt→ltb}
 use lib.ListN.{length, getD, take, length-take, length-append, List·getD-append}
 use lib.Seq.{getD-at}
-use Rattle.answers.proofs.Tests.{and-intro, and-left, and-right}
+use Rattle.laws.proofs.Tests.{and-intro, and-left, and-right}
 use Rattle.periods.specs.Period.{part, Period, SmallestPeriod, Repetition, seek, agrees, smallestPeriod, repetition?, prefixPeriods}
 use Rattle.periods.proofs.Search.{Sought, seek-sought, all-sound, all-complete}
 use Rattle.periods.proofs.InPlace.{SmallestIn, symbol, placed-part, placed-prefix, smallest-in, smallest-out, part-smallest-in, part-smallest-out, period-piece}

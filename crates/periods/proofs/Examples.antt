@@ -7,38 +7,33 @@ use lib.ListN.{replicate}
 use Rattle.answers.specs.Outcome.{accepted, refused}
 use Rattle.periods.specs.Period.{smallestPeriod, repetition?, prefixPeriods, anyPeriod}
 use Rattle.periods.specs.Part.{partOutcome, description}
-
-abbrev ababa : List ℕ
-ababa = 97 ∷ 98 ∷ 97 ∷ 98 ∷ 97 ∷ []
-
-abbrev aabaabaa : List ℕ
-aabaabaa = 97 ∷ 97 ∷ 98 ∷ 97 ∷ 97 ∷ 98 ∷ 97 ∷ 97 ∷ []
+use Rattle.periods.proofs.Words.{word-aabaabaa, word-ababa}
 
 -- "ababa * | 5 (unit 2, turns 2, rest 1)"
-pub part-of-ababa : partOutcome ababa 1 5 ≡ accepted (2 ∷ 2 ∷ 1 ∷ 1 ∷ [])
+pub part-of-ababa : partOutcome word-ababa 1 5 ≡ accepted (2 ∷ 2 ∷ 1 ∷ 1 ∷ [])
 unfolding partOutcome description repetition? smallestPeriod
 part-of-ababa = refl
 
 -- the block of the printed text: "block,1,1,8,3,2,2,2"
-pub part-of-aabaabaa : partOutcome aabaabaa 1 8 ≡ accepted (3 ∷ 2 ∷ 2 ∷ 1 ∷ [])
+pub part-of-aabaabaa : partOutcome word-aabaabaa 1 8 ≡ accepted (3 ∷ 2 ∷ 2 ∷ 1 ∷ [])
 unfolding partOutcome description repetition? smallestPeriod
 part-of-aabaabaa = refl
 
 -- the single symbol has a period, itself, and is no block
-pub part-of-one : partOutcome ababa 2 2 ≡ accepted (1 ∷ 1 ∷ 0 ∷ 0 ∷ [])
+pub part-of-one : partOutcome word-ababa 2 2 ≡ accepted (1 ∷ 1 ∷ 0 ∷ 0 ∷ [])
 unfolding partOutcome description repetition? smallestPeriod
 part-of-one = refl
 
 -- "6: first below 1, last above n or first above last"
-pub part-first-zero : partOutcome ababa 0 5 ≡ refused 6 0
+pub part-first-zero : partOutcome word-ababa 0 5 ≡ refused 6 0
 unfolding partOutcome
 part-first-zero = refl
 
-pub part-last-above : partOutcome ababa 1 6 ≡ refused 6 0
+pub part-last-above : partOutcome word-ababa 1 6 ≡ refused 6 0
 unfolding partOutcome
 part-last-above = refl
 
-pub part-turned : partOutcome ababa 4 3 ≡ refused 6 0
+pub part-turned : partOutcome word-ababa 4 3 ≡ refused 6 0
 unfolding partOutcome
 part-turned = refl
 
@@ -78,6 +73,6 @@ pub unit-of-257 : repetition? anyPeriod 2 (long-unit ++ long-unit) ≡ true
 unfolding repetition? smallestPeriod
 unit-of-257 = refl
 
-pub prefix-periods-of-aabaabaa : prefixPeriods aabaabaa 8 ≡ 1 ∷ 1 ∷ 3 ∷ 3 ∷ 3 ∷ 3 ∷ 3 ∷ 3 ∷ []
+pub prefix-periods-of-aabaabaa : prefixPeriods word-aabaabaa 8 ≡ 1 ∷ 1 ∷ 3 ∷ 3 ∷ 3 ∷ 3 ∷ 3 ∷ 3 ∷ []
 unfolding prefixPeriods smallestPeriod
 prefix-periods-of-aabaabaa = refl

@@ -4,4 +4,5 @@ pub mod Claims
 pub mod PartClaims
 pub mod Determined
 mod Units
+pub mod Words
 pub mod Examples

@@ -1,7 +1,7 @@
 -- What the part call answers means what document 01 says, for every word, first and last; and its answers are told apart by their numbers. By the order of
 -- the tests in the definition. Assumes nothing.
 use mathlib.Core.Path.{_≡_, refl, sym, ap, subst}
-use mathlib.Core.Bool.{Bool, true, false, _||_}
+use mathlib.Core.Bool.{Bool, true, false, _||_, and-true, or-true}
 use mathlib.Core.List.{List, [], _∷_}
 use Prim.Native.Nat.{ℕ, _-_, _*_, _/_, _%_, _≤_, _<_}
 use native.Mathlib.Omega.{arith}
@@ -10,7 +10,6 @@ use native.Mathlib.Nat.{div-add-mod', mod-lt}
 use borrow.Author.Tests.{lt-ltb, le-ltb}
 use lib.Dec.{T, leb, ltb}
 use lib.ListN.{length}
-use Rattle.answers.proofs.Tests.{and-true, or-true}
 use Rattle.answers.specs.Outcome.{Outcome, accepted, refused, refusal, limit}
 use Rattle.answers.proofs.Claims.{refused-accepted, refusal-injective}
 use Rattle.periods.specs.declared.PartAnswer.{PartAnswer}

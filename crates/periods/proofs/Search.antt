@@ -5,7 +5,7 @@ use Prim.Native.Nat.{ℕ, zero, suc, _+_, _≤_, _<_}
 use native.Mathlib.Omega.{arith}
 use native.Mathlib.Decide.{ℕ-discrete}
 use lib.Dec.{T}
-use Rattle.answers.proofs.Tests.{and-intro, and-left, and-right}
+use Rattle.laws.proofs.Tests.{and-intro, and-left, and-right}
 use Rattle.periods.specs.Period.{all, seek}
 
 pub all-sound : (t : ℕ → Bool) (i d : ℕ) → T (all t i d) → (j : ℕ) → i ≤ j → j < i + d → T (t j)

@@ -11,7 +11,7 @@ use native.Mathlib.Decide.{decLt}
 use borrow.Author.Tests.{lt-ltb, le-ltb}
 use lib.Dec.{T, ltb}
 use lib.ListN.{length, drop}
-use Rattle.answers.proofs.Tests.{T-true}
+use Rattle.laws.proofs.Tests.{T-true}
 use Rattle.answers.specs.declared.Refusal.{Refusal}
 use Rattle.answers.specs.declared.Refusal.the-variants.{TooFewPlaces, NotPlan}
 use Rattle.answers.specs.declared.Counted.{Counted}
@@ -23,10 +23,10 @@ use Rattle.factors.specs.Verdict.{verdict, VerdictMeaning, bad-end, no-block, u
 use Rattle.factors.proofs.VerdictClaims.{verdict-means, accepted-iff, accepted-length}
 use Rattle.plans.specs.declared.PlanAnswer.{PlanAnswer}
 use Rattle.plans.specs.declared.PlanAnswer.the-variants.{Plan, Refused}
-use Rattle.plans.specs.Line.{greatest, line, Small, IsLine, line?, numberAt, placeOfLength, placeOfCount, endsIn}
+use Rattle.plan_lines.specs.Line.{greatest, line, Small, IsLine, line?, numberAt, placeOfLength, placeOfCount, endsIn}
 use Rattle.plans.specs.Calls.{anyPiece, AnyPiece, plausible, writeOutcome, writeTable, readOutcome, readTable, planView, WriteMeaning, ReadMeaning}
-use Rattle.plans.proofs.Loops.{judge-too-long, judge-verdict}
-use Rattle.plans.proofs.LineClaims.{line-numbers, line-is-line, line-read}
+use Rattle.plans.proofs.Judged.{judge-too-long, judge-verdict}
+use Rattle.plan_lines.proofs.LineClaims.{line-numbers, line-is-line, line-read}
 
 -- ---- n and ends that are not refused
 

@@ -11,10 +11,10 @@ use lib.ListN.{length, drop}
 use Rattle.answers.specs.Outcome.{Outcome, accepted, refused, limit}
 use Rattle.factors.specs.Verdict.{VerdictMeaning}
 use Rattle.factors.proofs.VerdictClaims.{meaning-determines}
-use Rattle.plans.specs.Line.{IsLine, line?, numberAt, placeOfLength, placeOfCount, endsIn}
+use Rattle.plan_lines.specs.Line.{IsLine, line?, numberAt, placeOfLength, placeOfCount, endsIn}
 use Rattle.plans.specs.Calls.{AnyPiece, plausible, writeOutcome, writeTable, readOutcome, readTable, WriteMeaning, ReadMeaning}
-use Rattle.plans.proofs.Loops.{judge-too-long}
-use Rattle.plans.proofs.LineClaims.{line-numbers, line-is-line, line-read}
+use Rattle.plans.proofs.Judged.{judge-too-long}
+use Rattle.plan_lines.proofs.LineClaims.{line-numbers, line-is-line, line-read}
 use Rattle.plans.proofs.CallClaims.{plausible-means, write-refused, write-too-few, write-written, read-no-line, read-refused, read-too-few, read-plan}
 
 -- an outcome with the meaning of the verdict is the one that is computed

@@ -1,36 +1,20 @@
--- Document 01's lines, and a refusal of each kind, of the definitions that the contracts of the two calls cite, computed. Assumes nothing.
+-- Document 01's lines written and read, and a refusal of each kind, of the definitions that the contracts of the two calls cite, computed. Assumes nothing.
 use mathlib.Core.Path.{_≡_, refl}
-use mathlib.Core.Bool.{true}
 use mathlib.Core.List.{List, [], _∷_, _++_}
 use Prim.Native.Nat.{ℕ}
 use lib.ListN.{take}
 use Rattle.answers.specs.Outcome.{accepted, refused}
 use Rattle.decimals.specs.Decimal.{digits}
 use Rattle.factors.specs.Verdict.{verdict}
-use Rattle.plans.specs.Line.{planBytes, line, line?, startsWith, ends?, endsIn, numberAt, placeOfLength, placeOfCount}
+use Rattle.plan_lines.specs.Line.{line, line?, startsWith, ends?, endsIn}
 use Rattle.plans.specs.Calls.{plausible, writeOutcome, writeTable, readOutcome, readTable}
-
--- plan,0000,0000 and byte 10
-abbrev empty-plan : List ℕ
-empty-plan = 112 ∷ 108 ∷ 97 ∷ 110 ∷ 44 ∷ 48 ∷ 48 ∷ 48 ∷ 48 ∷ 44 ∷ 48 ∷ 48 ∷ 48 ∷ 48 ∷ 10 ∷ []
-
--- plan,0008,0002,0002,0008 and byte 10
-abbrev two-blocks : List ℕ
-two-blocks = 112 ∷ 108 ∷ 97 ∷ 110 ∷ 44 ∷ 48 ∷ 48 ∷ 48 ∷ 56 ∷ 44 ∷ 48 ∷ 48 ∷ 48 ∷ 50 ∷ 44 ∷ 48 ∷ 48 ∷ 48 ∷ 50 ∷ 44 ∷ 48 ∷ 48 ∷ 48 ∷ 56 ∷ 10 ∷ []
+use Rattle.plan_lines.proofs.Examples.{empty-plan, two-blocks}
 
 -- plan,0008,0003,0002,0008 and byte 10: two ends, and three stated
 abbrev wrong-count : List ℕ
 wrong-count = 112 ∷ 108 ∷ 97 ∷ 110 ∷ 44 ∷ 48 ∷ 48 ∷ 48 ∷ 56 ∷ 44 ∷ 48 ∷ 48 ∷ 48 ∷ 51 ∷ 44 ∷ 48 ∷ 48 ∷ 48 ∷ 50 ∷ 44 ∷ 48 ∷ 48 ∷ 48 ∷ 56 ∷ 10 ∷ []
 
 -- ---- writing
-
-pub line-of-none : line 0 [] ≡ empty-plan
-unfolding line digits
-line-of-none = refl
-
-pub line-of-two : line 8 (2 ∷ 8 ∷ []) ≡ two-blocks
-unfolding line digits
-line-of-two = refl
 
 -- "giving the count of bytes"; exactly enough are enough
 pub write-two : writeOutcome 8 (2 ∷ 8 ∷ []) 25 ≡ accepted (25 ∷ [])
@@ -64,18 +48,6 @@ unfolding writeTable writeOutcome plausible verdict line digits
 write-refused-keeps = refl
 
 -- ---- reading
-
-pub starts-with-plan : startsWith planBytes two-blocks ≡ true
-unfolding startsWith
-starts-with-plan = refl
-
-pub two-is-line : line? two-blocks ≡ true
-unfolding line? startsWith ends?
-two-is-line = refl
-
-pub numbers-of-two : numberAt two-blocks placeOfLength ∷ numberAt two-blocks placeOfCount ∷ endsIn two-blocks 2 ≡ 8 ∷ 2 ∷ 2 ∷ 8 ∷ []
-unfolding endsIn
-numbers-of-two = refl
 
 pub read-none : readOutcome empty-plan 0 ≡ accepted (0 ∷ 0 ∷ [])
 unfolding readOutcome line? startsWith ends? endsIn plausible verdict

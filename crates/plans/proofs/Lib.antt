@@ -1,5 +1,4 @@
-pub mod Loops
-pub mod LineClaims
+pub mod Judged
 pub mod CallClaims
 pub mod Determined
 pub mod Examples

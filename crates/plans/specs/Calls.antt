@@ -10,7 +10,7 @@ use Rattle.answers.specs.Outcome.{Outcome, accepted, refused, refusal, limit, u
 use Rattle.factors.specs.Verdict.{verdict, VerdictMeaning}
 use Rattle.plans.specs.declared.PlanAnswer.{PlanAnswer}
 use Rattle.plans.specs.declared.PlanAnswer.the-variants.{Plan, Refused}
-use Rattle.plans.specs.Line.{line, IsLine, line?, numberAt, placeOfLength, placeOfCount, endsIn}
+use Rattle.plan_lines.specs.Line.{line, IsLine, line?, numberAt, placeOfLength, placeOfCount, endsIn}
 
 -- a plan line carries no passes, so any piece may be a block
 abbrev pub anyPiece : ℕ → ℕ → ℕ → Bool

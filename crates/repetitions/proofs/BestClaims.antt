@@ -3,7 +3,7 @@
 -- in place are those that it has as a word of its own. Assumes nothing.
 use mathlib.Core.Path.{_≡_, refl, sym, ap, _∙_, subst}
 use mathlib.Core.Logic.{_⊎_, inl, inr}
-use mathlib.Core.Bool.{Bool, cond}
+use mathlib.Core.Bool.{Bool, cond, or-true}
 use mathlib.Core.List.{List, _++_, append-assoc}
 use Prim.Native.Nat.{ℕ, suc, _+_, _-_, _*_, _≤_, _<_}
 use native.Mathlib.Omega.{arith}
@@ -12,7 +12,6 @@ use borrow.Author.Tests.{lt-ltb, le-ltb, ne-eqb}
 use lib.Dec.{ltb, eqb}
 use lib.ListN.{length, getD, take, drop, replicate, length-append, length-take, length-drop, length-replicate, getD-replicate, replicate-append-replicate, List·getD-append}
 use lib.Seq.{take-at, drop-at, getD-append-add, drop-append-add}
-use Rattle.answers.proofs.Tests.{or-true}
 use Rattle.answers.specs.Outcome.{Outcome, refused, limit}
 use Rattle.periods.specs.Period.{anyPeriod, turns}
 use Rattle.factors.specs.Factorization.{Factorization, Choice, choiceOf, Cell, unreachable, reached, cell, bestEnds}

@@ -11,7 +11,7 @@ use native.Mathlib.Nat.{mul-le-mul-right}
 use lib.Dec.{T, leb, leb→le, le→leb}
 use lib.ListN.{length, take, length-take}
 use lib.Seq.{getD-take, ext-getD}
-use Rattle.answers.proofs.Tests.{and-intro, and-left, and-right}
+use Rattle.laws.proofs.Tests.{and-intro, and-left, and-right}
 use Rattle.periods.specs.Period.{part, Repetition, repetition?}
 use Rattle.periods.proofs.InPlace.{SmallestIn, symbol, Placed, placed-part, part-smallest-in, part-smallest-out}
 use Rattle.periods.proofs.Claims.{repetition-sound, repetition-complete}

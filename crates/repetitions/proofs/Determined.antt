@@ -8,24 +8,20 @@ use native.Mathlib.Omega.{arith}
 use native.Mathlib.Decide.{decLt, decLe}
 use lib.ListN.{length, getD, take, drop}
 use lib.Seq.{getD-drop, ext-getD}
-use Rattle.answers.specs.Outcome.{Outcome, accepted, refused, limit}
+use Rattle.answers.specs.Outcome.{Outcome, accepted}
 use Rattle.periods.specs.Period.{anyPeriod, turns}
-use Rattle.factors.specs.Factorization.{Factorization, Choice, choiceOf, AsGood}
+use Rattle.factors.specs.Factorization.{Choice, choiceOf, AsGood}
 use Rattle.factors.specs.Table.{rows}
 use Rattle.factors.proofs.Optimal.{as-good-antisym, best-unique}
-use Rattle.factors.proofs.VerdictClaims.{verdict-means, meaning-determines, accepted-factorization}
+use Rattle.factors.proofs.VerdictClaims.{verdict-means, meaning-determines}
 use Rattle.repetitions.specs.Block.{Block, block?}
-use Rattle.repetitions.specs.Graph.{Node, black, Path, GoTogether, encoding, runsOfPairs, endsOfPairs, Segment}
-use Rattle.repetitions.specs.BestSplit as split
 use Rattle.repetitions.specs.BestSplit.{bestOutcome, bestEndsTable, bestWork, Reported, Answered, Settled, BestMeaning}
-use Rattle.repetitions.specs.Judges as judges
-use Rattle.repetitions.specs.Judges.{splitOutcome, SplitMeaning, runNumbers, pathOutcome, pathTable, PathMeaning, numberGiven, segment?, pathJudgedOutcome, PathJudgedMeaning}
-use Rattle.repetitions.proofs.Blocks.{block-sound, block-complete, block-up}
-use Rattle.repetitions.proofs.Paths.{word-one-to-one}
+use Rattle.repetitions.specs.Judge.{splitOutcome, SplitMeaning}
+use Rattle.repetitions.proofs.Blocks.{block-sound, block-complete}
 use Rattle.repetitions.proofs.BestClaims.{Promised, promised-long, promised-bad, promised-short, promised-settled, settled-table}
 use Rattle.repetitions.proofs.JudgeClaims.{split-too-long, split-judged}
-use Rattle.repetitions.proofs.PathClaims.{numbers-path, PathPromised, path-promised-refused, path-promised-few, path-promised-numbered}
-use Rattle.repetitions.proofs.PathJudgeClaims.{decides, path-too-long, path-odd, path-judged}
+use Rattle.repetitions.specs.BestSplit as split
+use Rattle.repetitions.specs.Judge as judge
 
 -- ---- best split
 
@@ -107,47 +103,8 @@ module _ (w : List ℕ) (choice : ℕ) (e t : List ℕ) where
 
 -- CLAIM: the meaning of judge a split determines the answer
 pub split-determined : (w ends : List ℕ) (o : Outcome) → SplitMeaning w ends o → o ≡ splitOutcome w ends
-split-determined w ends o (judges.SplitMeaning.too-long h e) = e ∙ split-too-long w ends h
-split-determined w ends o (judges.SplitMeaning.judged h J) =
+split-determined w ends o (judge.SplitMeaning.too-long h e) = e ∙ split-too-long w ends h
+split-determined w ends o (judge.SplitMeaning.judged h J) =
     meaning-determines (λ k. Block anyPeriod turns w) (length w) ends (J .verdict-on)
     (verdict-means (λ k. block? anyPeriod turns w) (λ k. Block anyPeriod turns w) (λ k. block-sound anyPeriod turns w) (λ k. block-complete anyPeriod turns w) (length w) ends)
     ∙ split-judged w ends h
-
--- ---- path of a split
-
-factorization-accepted : (w ends : List ℕ) → length w ≤ limit → Factorization (Block anyPeriod turns w) (length w) ends → accepted (length ends ∷ []) ≡ splitOutcome w ends
-factorization-accepted w ends h F =
-    sym (accepted-factorization (block? anyPeriod turns w) (Block anyPeriod turns w) (block-sound anyPeriod turns w) (block-complete anyPeriod turns w) (length w) (block-up anyPeriod turns w) ends .1 F)
-    ∙ split-judged w ends h
-
--- the run numbers of a path that goes with the split
-path-numbers : (w ends : List ℕ) → Factorization (Block anyPeriod turns w) (length w) ends → (xs : List Node) → Path anyPeriod turns w (length w) xs → GoTogether xs ends
-    → runsOfPairs (encoding (black 0) xs) ≡ runNumbers w 0 ends
-path-numbers w ends F xs v g =
-    let p = numbers-path w ends F in
-    ap (λ (ys : List Node). runsOfPairs (encoding (black 0) ys)) (word-one-to-one w (length w) (omega arith) .one-path xs (p .0) v (p .1) (g ∙ sym (p .2))) ∙ p .3
-
--- CLAIM: the meaning of path of a split determines the answer and the table
-pub path-determined : (w ends t : List ℕ) (o : Outcome) (u : List ℕ) → PathMeaning w ends t o u → (o ≡ pathOutcome w ends (length t)) × (u ≡ pathTable w ends t)
-path-determined w ends t o u M = go M
-  where
-    by : {p : Outcome} {v : List ℕ} → o ≡ p → u ≡ v → PathPromised w ends t p v → (o ≡ pathOutcome w ends (length t)) × (u ≡ pathTable w ends t)
-    by a b P = (a ∙ P .answer, b ∙ P .table)
-
-    go : PathMeaning w ends t o u → (o ≡ pathOutcome w ends (length t)) × (u ≡ pathTable w ends t)
-    go (judges.PathMeaning.refused-split x i S a b) = by a b (path-promised-refused w ends t x i (split-determined w ends (refused x i) S))
-    go (judges.PathMeaning.too-few h F k a b) = by a b (path-promised-few w ends t (length ends ∷ []) (factorization-accepted w ends h F) k)
-    go (judges.PathMeaning.numbered h F k xs v g a b) =
-        by a (b ∙ ap (λ (l : List ℕ). l ++ drop (length ends) t) (path-numbers w ends F xs v g))
-        (path-promised-numbered w ends t (length ends ∷ []) (factorization-accepted w ends h F) k)
-
--- ---- judge a path
-
--- CLAIM: the meaning of judge a path determines the answer
-pub path-judged-determined : (w ns : List ℕ) (o : Outcome) → PathJudgedMeaning w ns o → o ≡ pathJudgedOutcome w ns
-path-judged-determined w ns o (judges.PathJudgedMeaning.too-long h e) = e ∙ path-too-long w ns h
-path-judged-determined w ns o (judges.PathJudgedMeaning.odd h q e) = e ∙ path-odd w ns h q
-path-judged-determined w ns o (judges.PathJudgedMeaning.judged h q J) =
-    meaning-determines (λ m i j. Segment anyPeriod turns w (numberGiven ns m) i j) (length w) (endsOfPairs ns) (J .verdict-on)
-    (verdict-means (segment? anyPeriod turns w ns) (λ m i j. Segment anyPeriod turns w (numberGiven ns m) i j) (λ m i j. decides w ns m i j .0) (λ m i j. decides w ns m i j .1) (length w) (endsOfPairs ns))
-    ∙ path-judged w ns h (λ z. omega arith)

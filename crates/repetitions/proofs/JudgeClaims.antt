@@ -1,24 +1,21 @@
 -- Judge a split accepts exactly the factorizations, and names the first fault (split-means), by the verdict's claims (factors/proofs/VerdictClaims.antt). The
 -- loops of the judges go by the verdict on the ends that are left. Assumes nothing.
-use mathlib.Core.Path.{_≡_, refl, sym, ap, ap₂, _∙_, subst}
-use mathlib.Core.Bool.{Bool}
-use mathlib.Core.List.{List, [], _∷_}
-use Prim.Native.Nat.{ℕ, _+_, _-_, _*_, _≤_, _<_}
+use mathlib.Core.Path.{_≡_, sym, ap₂, _∙_, subst}
+use mathlib.Core.List.{List}
+use Prim.Native.Nat.{ℕ, _-_, _*_, _≤_, _<_}
 use native.Mathlib.Omega.{arith}
-use native.Mathlib.Numerals.{add-one}
 use native.Mathlib.Decide.{decLt}
 use borrow.Author.Tests.{lt-ltb, le-ltb, le-leb}
 use lib.Dec.{leb}
-use lib.ListN.{length, getD, drop, drop-of-length-le}
-use lib.Seq.{drop-cons}
+use lib.ListN.{length}
 use Rattle.answers.specs.Outcome.{Outcome, refused, limit}
 use Rattle.periods.specs.Period.{part, smallestPeriod, anyPeriod, turns}
 use Rattle.periods.proofs.InPlace.{placed-part}
 use Rattle.periods.proofs.PartClaims.{repetition-any}
-use Rattle.factors.specs.Verdict.{verdict, verdictFrom}
+use Rattle.factors.specs.Verdict.{verdict}
 use Rattle.factors.proofs.VerdictClaims.{verdict-means, accepted-factorization}
 use Rattle.repetitions.specs.Block.{Block, block?}
-use Rattle.repetitions.specs.Judges.{splitOutcome, SplitJudged, SplitMeaning, too-long, judged}
+use Rattle.repetitions.specs.Judge.{splitOutcome, SplitJudged, SplitMeaning, too-long, judged}
 use Rattle.repetitions.proofs.Blocks.{block-sound, block-complete, block-up}
 
 -- ---- judge a split
@@ -48,22 +45,8 @@ split-means w ends = go (decLt limit (length w))
 pub split-answered : (w ends : List ℕ) (o : Outcome) → o ≡ splitOutcome w ends → (o ≡ splitOutcome w ends) × SplitMeaning w ends o
 split-answered w ends o e = (e, subst (SplitMeaning w ends) (sym e) (split-means w ends))
 
--- ---- its loop: the verdict on the ends that are left
-
 -- the test of a piece, from its unit
 pub block-test : (w : List ℕ) (i j u : ℕ) → i < j → j ≤ length w → u ≡ smallestPeriod (part w i j) → block? anyPeriod turns w i j ≡ leb (turns * u) (j - i)
 block-test w i j u a b e =
     let l : length (part w i j) ≡ j - i = placed-part w i j b .long in
     rw (le-leb j (length w) b) (repetition-any turns (part w i j) (omega (arith, l)) ∙ ap₂ (λ (x y : ℕ). leb (turns * x) y) (sym e) l)
-
--- what is left of the ends after k of them, whatever the test
-module _ (block? : ℕ → ℕ → ℕ → Bool) (n k i : ℕ) (ends : List ℕ) where
-  pub verdict-more : k < length ends → verdictFrom block? n k i (drop k ends) ≡ verdictFrom block? n k i (getD ends k 0 ∷ drop (k + 1) ends)
-  verdict-more h = ap (verdictFrom block? n k i) (drop-cons ends k 0 h ∙ ap (λ (x : ℕ). getD ends k 0 ∷ drop x ends) (sym (add-one k)))
-
-  pub verdict-none-left : length ends ≤ k → verdictFrom block? n k i (drop k ends) ≡ verdictFrom block? n k i []
-  verdict-none-left h = ap (verdictFrom block? n k i) (drop-of-length-le ends h)
-
-pub verdict-start : (block? : ℕ → ℕ → ℕ → Bool) (n : ℕ) (ends : List ℕ) → verdictFrom block? n 0 0 (drop 0 ends) ≡ verdict block? n ends
-unfolding verdict
-verdict-start block? n ends = refl

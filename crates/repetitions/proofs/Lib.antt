@@ -1,11 +1,6 @@
 pub mod Blocks
-pub mod Encodings
-pub mod Paths
 pub mod FillLaws
 pub mod BestClaims
 pub mod JudgeClaims
-pub mod PathClaims
-pub mod NumberLaws
-pub mod PathJudgeClaims
 pub mod Determined
 pub mod Examples

@@ -1,6 +1,4 @@
 pub mod Block
-pub mod Graph
 pub mod Fill
 pub mod BestSplit
-pub mod Judges
-pub mod Walk
+pub mod Judge

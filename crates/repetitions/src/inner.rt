@@ -1,7 +1,7 @@
 // For this crate's calls: the caller shows what each function requires.
 ghost use mathlib.Core.Path.{_≡_};
 ghost use mathlib.Core.List.{_++_};
-ghost use Prim.Native.Nat.{ℕ, _≤_, _<_, _+_, _-_, _*_, _%_};
+ghost use Prim.Native.Nat.{ℕ, _≤_, _<_, _+_, _-_, _*_};
 ghost use lib.ListN.{length, getD, drop, replicate};
 ghost use Rattle.answers.specs.Outcome.{countedView, limit};
 ghost use Rattle.periods.specs.Period.{anyPeriod, turns};
@@ -10,17 +10,9 @@ ghost use Rattle.factors.specs.Table.{none, rows, sizes, spread, filled, Linked
 ghost use Rattle.repetitions.specs.Block.{block?};
 ghost use Rattle.repetitions.specs.Fill.{placeOfUnit, longEnough, rowOne, handedOutcome, handedEnds};
 ghost use Rattle.repetitions.specs.BestSplit.{sizeOutcome, sizeEnds, lastCell};
-ghost use Rattle.factors.specs.Factorization.{Factorization};
-ghost use Rattle.factors.specs.Verdict.{verdict};
-ghost use Rattle.runs.specs.Inner.{foundView};
-ghost use Rattle.repetitions.specs.Block.{Block};
-ghost use Rattle.repetitions.specs.Graph.{endsOfPairs};
-ghost use Rattle.repetitions.specs.Judges.{runNumbers, inRun?, segment?};
-ghost use Rattle.repetitions.specs.Walk.{leftEnd};
 use answers::Counted;
 use answers::Refusal;
 use factors::NONE;
-use runs::inner::Found;
 
 // Offers a size from boundary j to each boundary at which a repetition that starts there ends. Row 2
 // has the units of the parts after boundary j; they never fall, so the first that is too long for
@@ -109,95 +101,4 @@ pub(crate) fn settle(w: &[u8], choice: u32, ends: &mut [u32], work: &mut [u32]) 
     let two = row + row;
     factors::inner::clear(&mut work[row..two]);
     answer
-}
-
-// The boundary after which the run starts that encloses a block after boundary i and has its unit p.
-fn left_end(w: &[u8], i: usize, p: usize) -> usize
-    requires { ⌜ i + p ≤ length (now w) ⌝ }
-    ensures { λ r. ⌜ r ≡ leftEnd (now (w .entry)) p i ⌝ }
-{
-    let mut a = i;
-    while 0 < a {
-        if w[a - 1] != w[a - 1 + p] {
-            return a;
-        }
-        a -= 1;
-    }
-    a
-}
-
-// Writes the run number of each block of a factorization. The runs are counted once, for all blocks.
-pub(crate) fn number_blocks(w: &[u8], ends: &[u32], table: &mut [u32])
-    requires { ⌜ (length (now w) ≤ limit) × Factorization (Block anyPeriod turns (now w)) (length (now w)) (now ends) × (length (now ends) ≤ length (now table)) ⌝ }
-    ensures { λ _. ⌜ now (table .exit) ≡ runNumbers (now (w .entry)) 0 (now (ends .entry)) ++ drop (length (now (ends .entry))) (now (table .entry)) ⌝ }
-{
-    let mut counts = [0u32; answers::LIMIT + 1];
-    let mut units = [0u32; answers::LIMIT];
-    let mut rows = [0u32; runs::STRIDE * answers::LIMIT];
-    runs::inner::counts(w, &mut units, &mut counts);
-    let mut before: usize = 0;
-    let mut k: usize = 0;
-    while k < ends.len() {
-        let end = ends[k] as usize;
-        let p = periods::smallest_period(&w[before..end]);
-        let a = left_end(w, before, p);
-        table[k] = runs::inner::number_of(w, &counts, a, p as u32, &mut units, &mut rows);
-        before = end;
-        k += 1;
-    }
-}
-
-// Whether the piece between two boundaries lies in the run that was found, and is long enough for it.
-fn lies_in(found: Found, i: usize, j: usize) -> bool
-    requires { ⌜ (i ≤ limit) × (j ≤ limit) ⌝ }
-    ensures { λ r. ⌜ r ≡ inRun? anyPeriod turns (foundView found) i j ⌝ }
-{
-    match found {
-        Found::Nothing => false,
-        Found::Run(r) => {
-            if i + 1 < r.first as usize {
-                return false;
-            }
-            if (r.last as usize) < j {
-                return false;
-            }
-            i + periods::TURNS * (r.period as usize) <= j
-        }
-    }
-}
-
-// The verdict on a path with an even count of numbers. Each run is worked out from the symbols, never
-// believed; the runs are counted once, for all blocks.
-pub(crate) fn follow(w: &[u8], numbers: &[u32]) -> Counted
-    requires { ⌜ (length (now w) ≤ limit) × (length (now numbers) % 2 ≡ 0) ⌝ }
-    ensures { λ r. ⌜ countedView r ≡ verdict (segment? anyPeriod turns (now (w .entry)) (now (numbers .entry))) (length (now (w .entry))) (endsOfPairs (now (numbers .entry))) ⌝ }
-{
-    let n = w.len();
-    let mut counts = [0u32; answers::LIMIT + 1];
-    let mut units = [0u32; answers::LIMIT];
-    let mut rows = [0u32; runs::STRIDE * answers::LIMIT];
-    runs::inner::counts(w, &mut units, &mut counts);
-    let mut before: usize = 0;
-    let mut k: usize = 0;
-    while k + k < numbers.len() {
-        let run = numbers[k + k];
-        let end = numbers[k + k + 1] as usize;
-        let number = (k + 1) as u32;
-        if end <= before {
-            return Counted::Refused(Refusal::BadEnd(number));
-        }
-        if n < end {
-            return Counted::Refused(Refusal::BadEnd(number));
-        }
-        let found = runs::inner::run_with(w, &counts, run, &mut units, &mut rows);
-        if !lies_in(found, before, end) {
-            return Counted::Refused(Refusal::NotRepetition(number));
-        }
-        before = end;
-        k += 1;
-    }
-    if before != n {
-        return Counted::Refused(Refusal::Unfinished);
-    }
-    Counted::Count(k as u32)
 }

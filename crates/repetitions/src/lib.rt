@@ -1,9 +1,8 @@
-// Repetition factorizations: best split, the judges, path of a split.
+// Repetition factorizations: best split, judge a split.
 ghost use mathlib.Core.Path.{_≡_};
-ghost use lib.ListN.{length};
 ghost use Rattle.answers.specs.Outcome.{countedView};
 ghost use Rattle.repetitions.specs.BestSplit.{bestOutcome, bestEndsTable, bestWork, BestMeaning};
-ghost use Rattle.repetitions.specs.Judges.{splitOutcome, SplitMeaning, pathOutcome, pathTable, PathMeaning, pathJudgedOutcome, PathJudgedMeaning};
+ghost use Rattle.repetitions.specs.Judge.{splitOutcome, SplitMeaning};
 
 mod inner;
 
@@ -13,7 +12,7 @@ use answers::Refusal;
 // Best split: choice 1 is fewest, 2 is most. Gives the size, and writes the ends of the
 // factorization of that size whose last block is longest, then the one before it, and so on. The
 // working table afterwards holds the best size of each prefix length. Refusals: 1, 8, 9, 2, 7.
-// Time: quadratic in the word's length at most. About 50 bytes of stack a block.
+// Time: quadratic in the word's length at most. 192 bytes of stack, and 48 a block.
 pub fn best_split(w: &[u8], choice: u32, ends: &mut [u32], work: &mut [u32]) -> Counted
     ensures answer { λ r. ⌜ countedView r ≡ bestOutcome (now (w .entry)) choice (now (ends .entry)) (now (work .entry)) ⌝ }
     ensures written { λ r. ⌜ now (ends .exit) ≡ bestEndsTable (now (w .entry)) choice (now (ends .entry)) (now (work .entry)) ⌝ }
@@ -24,10 +23,10 @@ pub fn best_split(w: &[u8], choice: u32, ends: &mut [u32], work: &mut [u32]) -> 
     if answers::LIMIT < n {
         return Counted::Refused(Refusal::TooLong);
     }
-    if choice < 1 {
+    if choice < factors::FEWEST {
         return Counted::Refused(Refusal::BadChoice);
     }
-    if 2 < choice {
+    if factors::MOST < choice {
         return Counted::Refused(Refusal::BadChoice);
     }
     if work.len() < factors::ROWS * (n + 1) {
@@ -52,10 +51,7 @@ pub fn judge_split(w: &[u8], ends: &[u32]) -> Counted
     while k < ends.len() {
         let end = ends[k] as usize;
         let number = (k + 1) as u32;
-        if end <= before {
-            return Counted::Refused(Refusal::BadEnd(number));
-        }
-        if n < end {
+        if factors::bad_end(before, end, n) {
             return Counted::Refused(Refusal::BadEnd(number));
         }
         let unit = periods::smallest_period(&w[before..end]);
@@ -69,41 +65,4 @@ pub fn judge_split(w: &[u8], ends: &[u32]) -> Counted
         return Counted::Refused(Refusal::Unfinished);
     }
     Counted::Count(k as u32)
-}
-
-// Path of a split: writes the run number of each block, and gives the number of blocks. With the
-// ends these are the encoding of the one path that goes with the split. Refusals: those of
-// judge_split, then 7. Time: quadratic in the word's length at most; about 80 KiB of stack.
-pub fn path_of_split(w: &[u8], ends: &[u32], table: &mut [u32]) -> Counted
-    ensures answer { λ r. ⌜ countedView r ≡ pathOutcome (now (w .entry)) (now (ends .entry)) (length (now (table .entry))) ⌝ }
-    ensures written { λ r. ⌜ now (table .exit) ≡ pathTable (now (w .entry)) (now (ends .entry)) (now (table .entry)) ⌝ }
-    ensures meaning { λ r. ⌜ PathMeaning (now (w .entry)) (now (ends .entry)) (now (table .entry)) (countedView r) (now (table .exit)) ⌝ }
-{
-    let verdict = judge_split(w, ends);
-    match verdict {
-        Counted::Refused(r) => Counted::Refused(r),
-        Counted::Count(blocks) => {
-            if table.len() < ends.len() {
-                return Counted::Refused(Refusal::TooFewPlaces);
-            }
-            inner::number_blocks(w, ends, table);
-            Counted::Count(blocks)
-        }
-    }
-}
-
-// Judge a path, for each block a run number and then an end: accepted, with the number of blocks,
-// exactly when the numbers encode a path of the word's length in the repetition graph. Refusals: 1,
-// 10, then as for a split. Time: quadratic in the word's length at most; about 80 KiB of stack.
-pub fn judge_path(w: &[u8], numbers: &[u32]) -> Counted
-    ensures answer { λ r. ⌜ countedView r ≡ pathJudgedOutcome (now (w .entry)) (now (numbers .entry)) ⌝ }
-    ensures meaning { λ r. ⌜ PathJudgedMeaning (now (w .entry)) (now (numbers .entry)) (countedView r) ⌝ }
-{
-    if answers::LIMIT < w.len() {
-        return Counted::Refused(Refusal::TooLong);
-    }
-    if numbers.len() % 2 == 1 {
-        return Counted::Refused(Refusal::OddPath);
-    }
-    inner::follow(w, numbers)
 }

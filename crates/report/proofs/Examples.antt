@@ -8,11 +8,11 @@ use Rattle.periods.specs.Period.{smallestPeriod, repetition?}
 use Rattle.runs.specs.Table.{run?, runBetween, rowsAt, rowsBefore, runsOf}
 use Rattle.factors.specs.Factorization.{cell, bestEnds}
 use Rattle.decimals.specs.Decimal.{digits, digitCount}
-use Rattle.repetitions.specs.Judges.{firstNumber, runNumber}
-use Rattle.report.specs.Text.{refusedText, fieldsOf, line, runLines, blockLine, blockLines, splitText, text, reportOutcome, reportTable}
-
-abbrev aabaabaa : List ℕ
-aabaabaa = 97 ∷ 97 ∷ 98 ∷ 97 ∷ 97 ∷ 98 ∷ 97 ∷ 97 ∷ []
+use Rattle.runs.specs.Number.{firstNumber, runNumber}
+use Rattle.report.specs.Text.{refusedText, runLines, blockLine, blockLines, splitText, text, reportOutcome, reportTable}
+use Rattle.writers.specs.Line.{fieldsOf}
+use Rattle.writers.specs.Line.{line}
+use Rattle.periods.proofs.Words.{word-aabaabaa}
 
 -- the ten lines, one to a line here
 abbrev tenLines : List ℕ
@@ -28,7 +28,7 @@ tenLines =
     98 ∷ 108 ∷ 111 ∷ 99 ∷ 107 ∷ 44 ∷ 49 ∷ 44 ∷ 49 ∷ 44 ∷ 50 ∷ 44 ∷ 49 ∷ 44 ∷ 50 ∷ 44 ∷ 48 ∷ 44 ∷ 49 ∷ 10 ∷
     98 ∷ 108 ∷ 111 ∷ 99 ∷ 107 ∷ 44 ∷ 50 ∷ 44 ∷ 51 ∷ 44 ∷ 56 ∷ 44 ∷ 51 ∷ 44 ∷ 50 ∷ 44 ∷ 48 ∷ 44 ∷ 50 ∷ 10 ∷ []
 
-pub text-of-aabaabaa : text aabaabaa ≡ tenLines
+pub text-of-aabaabaa : text word-aabaabaa ≡ tenLines
 unfolding text line fieldsOf runLines blockLine blockLines splitText digits digitCount runsOf rowsBefore rowsAt runBetween run? repetition? smallestPeriod cell bestEnds runNumber firstNumber
 text-of-aabaabaa = refl
 

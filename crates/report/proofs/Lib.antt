@@ -1,4 +1,3 @@
-pub mod Stores
 pub mod Lines
 pub mod Splits
 pub mod Reports

@@ -1,5 +1,5 @@
 -- The lines of the runs and of the blocks: one more line, and how long they can be; and the finder's record of a block, which is its run. A block has one run
--- that encloses it and has its unit (repetitions/proofs/PathClaims.antt), so that the first record that the finder meets is that run. Assumes nothing.
+-- that encloses it and has its unit (runs/proofs/Number.antt), so that the first record that the finder meets is that run. Assumes nothing.
 use mathlib.Core.Path.{_≡_, refl, sym, ap, ap₂, _∙_, subst}
 use mathlib.Core.Logic.{_≢_}
 use mathlib.Core.Bool.{Bool, true, false, cond}
@@ -11,22 +11,21 @@ use lib.Dec.{eqb, eqb·suc-zero}
 use lib.ListN.{length, getD, take, drop, length-append, length-take, drop-of-length-le}
 use lib.Seq.{drop-cons}
 use Rattle.periods.specs.Period.{part, smallestPeriod, anyPeriod, turns}
-use Rattle.periods.proofs.Claims.{smallest-period-is}
-use Rattle.runs.specs.Run.{Row, Entry}
-use Rattle.runs.specs.Table.{stride, runsOf, numbersOf}
-use Rattle.runs.specs.Inner.{records}
+use Rattle.periods.proofs.Claims.{smallest-period-is, smallest-period-unique}
+use Rattle.runs.specs.declared.Record.{Record}
+use Rattle.runs.specs.Table.{runsOf, numbersOf, records, recordAt}
 use Rattle.runs.proofs.Rows.{part-long}
-use Rattle.runs.proofs.Records.{recordAt, records-none, records-more, length-records}
+use Rattle.finder.specs.Find.{enclosing?, step, findRun}
+use Rattle.runs.proofs.Records.{records-none, records-more, length-records}
 use Rattle.factors.specs.Factorization.{Chain}
-use Rattle.finder.specs.declared.Run.{Run}
-use Rattle.finder.specs.Find.{enclosing?, step, findRun, recordsOf}
 use Rattle.repetitions.specs.Block.{Block}
-use Rattle.repetitions.specs.Judges.{encloses?, firstNumber, runNumber}
+use Rattle.runs.specs.Number.{encloses?, firstNumber, runNumber}
 use Rattle.repetitions.proofs.Blocks.{block-up}
-use Rattle.repetitions.proofs.PathClaims.{run-number-segment}
-use Rattle.report.specs.Records.{held, heldRows, runBytes, blockBytes}
-use Rattle.report.specs.Text.{runName, blockName, line, runLines, blockLine, blockLines}
-use Rattle.report.proofs.Stores.{line-long}
+use Rattle.report.specs.Records.{runBytes, blockBytes}
+use Rattle.report.specs.Text.{runName, blockName, runLines, blockLine, blockLines}
+use Rattle.writers.specs.Line.{line}
+use Rattle.writers.proofs.Stores.{line-long}
+use Rattle.runs.proofs.Number.{run-numbered}
 
 -- ---- runs
 
@@ -34,7 +33,7 @@ pub run-lines-none : (t : List ℕ) → runLines 0 (records 0 t) ≡ []
 unfolding runLines
 run-lines-none t = ap (runLines 0) (records-none t)
 
-run-lines-snoc : (rows : List Row) (r : Row) (i : ℕ) → runLines i (rows ++ (r ∷ [])) ≡ runLines i rows ++ line runName ((i + length rows + 1) ∷ numbersOf r)
+run-lines-snoc : (rows : List Record) (r : Record) (i : ℕ) → runLines i (rows ++ (r ∷ [])) ≡ runLines i rows ++ line runName ((i + length rows + 1) ∷ numbersOf r)
 unfolding runLines
 run-lines-snoc [] r i = ap (λ (k : ℕ). line runName (k ∷ numbersOf r) ++ []) {x = suc i} {y = i + 0 + 1} (omega arith) ∙ append-nil (line runName ((i + 0 + 1) ∷ numbersOf r))
 run-lines-snoc (x ∷ rows) r i =
@@ -50,7 +49,7 @@ run-lines-more t i =
     ∙ sym (run-lines-snoc (records i t) (recordAt t i) 0)
     ∙ ap (runLines 0) (sym (records-more t i))
 
-pub run-lines-long : (rows : List Row) (i : ℕ) → length (runLines i rows) ≤ runBytes * length rows
+pub run-lines-long : (rows : List Record) (i : ℕ) → length (runLines i rows) ≤ runBytes * length rows
 unfolding runLines
 run-lines-long [] i = omega arith
 run-lines-long (r ∷ rows) i =
@@ -101,7 +100,7 @@ chain-more B es k i m h c = rw (add-one k) (subst (λ (l : List ℕ). Chain B i 
 
 -- ---- the record of a block
 
-find-most : (rs : List Run) (first last p : ℕ) → findRun rs first last p ≤ length rs
+find-most : (rs : List Record) (first last p : ℕ) → findRun rs first last p ≤ length rs
 find-most [] first last p = omega arith
 find-most (r ∷ rs) first last p = go (enclosing? (r .first) (r .last) (r .period) first last p) (find-most rs first last p)
   where
@@ -110,51 +109,42 @@ find-most (r ∷ rs) first last p = go (enclosing? (r .first) (r .last) (r .peri
     go false h = omega arith
 
 -- the finder counts from 0, the numbers of the runs from 1
-find-first : (i j p : ℕ) (rows : List Row) → firstNumber (encloses? i j p) rows ≢ 0
-    → findRun (heldRows rows) (i + 1) j p + 1 ≡ firstNumber (encloses? i j p) rows
+find-first : (i j p : ℕ) (rows : List Record) → firstNumber (encloses? i j p) rows ≢ 0
+    → findRun rows (i + 1) j p + 1 ≡ firstNumber (encloses? i j p) rows
 unfolding firstNumber
 find-first i j p [] h = absurd (h refl)
 find-first i j p (r ∷ rs) h = go (find-first i j p rs) (encloses? i j p r) h
   where
-    later : (m : ℕ) → (m ≢ 0 → findRun (heldRows rs) (i + 1) j p + 1 ≡ m) → cond (eqb m 0) 0 (suc m) ≢ 0
-        → suc (findRun (heldRows rs) (i + 1) j p) + 1 ≡ cond (eqb m 0) 0 (suc m)
+    later : (m : ℕ) → (m ≢ 0 → findRun rs (i + 1) j p + 1 ≡ m) → cond (eqb m 0) 0 (suc m) ≢ 0
+        → suc (findRun rs (i + 1) j p) + 1 ≡ cond (eqb m 0) 0 (suc m)
     later zero ih k = absurd (k refl)
     later (suc m) ih k = rw (eqb·suc-zero m) (omega (arith, ih (λ e. omega arith)))
 
-    go : (firstNumber (encloses? i j p) rs ≢ 0 → findRun (heldRows rs) (i + 1) j p + 1 ≡ firstNumber (encloses? i j p) rs) → (b : Bool)
+    go : (firstNumber (encloses? i j p) rs ≢ 0 → findRun rs (i + 1) j p + 1 ≡ firstNumber (encloses? i j p) rs) → (b : Bool)
         → cond b 1 (cond (eqb (firstNumber (encloses? i j p) rs) 0) 0 (suc (firstNumber (encloses? i j p) rs))) ≢ 0
-        → step b (findRun (heldRows rs) (i + 1) j p) + 1 ≡ cond b 1 (cond (eqb (firstNumber (encloses? i j p) rs) 0) 0 (suc (firstNumber (encloses? i j p) rs)))
+        → step b (findRun rs (i + 1) j p) + 1 ≡ cond b 1 (cond (eqb (firstNumber (encloses? i j p) rs) 0) 0 (suc (firstNumber (encloses? i j p) rs)))
     go ih true k = refl
     go ih false k = later (firstNumber (encloses? i j p) rs) ih k
 
+-- a block is twice its unit or longer
+block-twice : (w : List ℕ) (i j : ℕ) → Block anyPeriod turns w i j → 2 * smallestPeriod (part w i j) ≤ length (part w i j)
+block-twice w i j K = omega (arith, K .1 .long, smallest-period-unique (part w i j) (K .1 .period) (K .1 .smallest))
+
 -- CLAIM: the first record that encloses a block and has its unit is the block's run
 pub find-is-run-number : (w : List ℕ) (i j : ℕ) → Block anyPeriod turns w i j
-    → findRun (heldRows (runsOf w)) (i + 1) j (smallestPeriod (part w i j)) + 1 ≡ runNumber w i j
+    → findRun (runsOf w) (i + 1) j (smallestPeriod (part w i j)) + 1 ≡ runNumber w i j
 unfolding runNumber
 find-is-run-number w i j K =
-    let S = run-number-segment w i j K in
-    find-first i j (smallestPeriod (part w i j)) (runsOf w) (λ e. subst (λ (n : ℕ). Entry (runsOf w) n (S .run)) e (S .numbered))
+    let l = part-long w i j (K .0) in
+    let u = block-up anyPeriod turns w i j K in
+    find-first i j (smallestPeriod (part w i j)) (runsOf w) (run-numbered w i j (K .0) (omega arith) (block-twice w i j K))
 
 -- the same for what the finder gives over the records that are held
-pub found-is-run-number : (w : List ℕ) (rs : List Run) (count i j unit found : ℕ) → Block anyPeriod turns w i j → take count rs ≡ heldRows (runsOf w)
+pub found-is-run-number : (w : List ℕ) (rs : List Record) (count i j unit found : ℕ) → Block anyPeriod turns w i j → take count rs ≡ runsOf w
     → unit ≡ smallestPeriod (part w i j) → found ≡ findRun (take count rs) (i + 1) j unit → found + 1 ≡ runNumber w i j
 found-is-run-number w rs count i j unit found K h e f =
-    ap (λ (n : ℕ). n + 1) (f ∙ ap₂ (λ (l : List Run) (p : ℕ). findRun l (i + 1) j p) h e) ∙ find-is-run-number w i j K
+    ap (λ (n : ℕ). n + 1) (f ∙ ap₂ (λ (l : List Record) (p : ℕ). findRun l (i + 1) j p) h e) ∙ find-is-run-number w i j K
 
 -- it is among them
-pub found-most : (rs : List Run) (count first last p found : ℕ) → found ≡ findRun (take count rs) first last p → found ≤ count
+pub found-most : (rs : List Record) (count first last p found : ℕ) → found ≡ findRun (take count rs) first last p → found ≤ count
 found-most rs count first last p found e = omega (arith, e, find-most (take count rs) first last p, length-take count rs)
-
--- the records that the finder holds of a table
-pub records-held : (t : List ℕ) (c : ℕ) → recordsOf t c ≡ heldRows (records c t)
-unfolding records
-records-held t zero = refl
-records-held t (suc c) =
-    let e : c * 3 ≡ stride * c = omega arith in
-    ap (λ (l : List Run). l ++ (record { first = getD t (c * 3) 0; last = getD t (c * 3 + 1) 0; period = getD t (c * 3 + 2) 0 } ∷ [])) (records-held t c)
-    ∙ ap (λ (k : ℕ). heldRows (records c t) ++ (record { first = getD t k 0; last = getD t (k + 1) 0; period = getD t (k + 2) 0 } ∷ [])) e
-    ∙ sym (held-append (records c t) (recordAt t c ∷ []))
-  where
-    held-append : (xs ys : List Row) → heldRows (xs ++ ys) ≡ heldRows xs ++ heldRows ys
-    held-append [] ys = refl
-    held-append (x ∷ xs) ys = ap (λ (l : List Run). held x ∷ l) (held-append xs ys)

@@ -7,15 +7,14 @@ use native.Mathlib.Omega.{arith}
 use native.Mathlib.Decide.{decLt}
 use borrow.Author.Tests.{lt-ltb, le-ltb}
 use lib.ListN.{length, drop, length-append, length-drop}
-use Rattle.answers.proofs.Stores.{sets-front}
+use Rattle.laws.proofs.Stores.{sets-front}
 use Rattle.answers.proofs.Claims.{refused-accepted}
 use Rattle.answers.specs.declared.Counted.{Counted}
 use Rattle.answers.specs.declared.Counted.the-variants.{Count, Refused}
 use Rattle.answers.specs.declared.Refusal.{Refusal}
 use Rattle.answers.specs.Outcome.{Outcome, accepted, refused, refusal, countedView, limit}
 use Rattle.periods.specs.Period.{anyPeriod, turns}
-use Rattle.runs.specs.Table.{runsOf, stride, flat}
-use Rattle.runs.specs.Inner.{records}
+use Rattle.runs.specs.Table.{runsOf, stride, flat, records}
 use Rattle.runs.specs.Calls.{runsOutcome, runsTable}
 use Rattle.runs.proofs.Rows.{length-flat}
 use Rattle.runs.proofs.Records.{records-left}
@@ -28,7 +27,8 @@ use Rattle.repetitions.specs.BestSplit.{lastCell}
 use Rattle.repetitions.proofs.BestClaims.{word-answers}
 use Rattle.finder.specs.Find.{recordLimit}
 use Rattle.report.specs.Text.{programLimit, fewestName, mostName, refusedText, splitLines, splitText, text, reportOutcome, reportTable}
-use Rattle.report.specs.Records.{longestText, printedOutcome, printedTable}
+use Rattle.report.specs.Records.{longestText}
+use Rattle.writers.specs.Line.{printedOutcome, printedTable}
 use Rattle.report.specs.Meaning.{SplitPrinted, none-printed, best-printed, Printed, refused-alone, all-lines, Held, ReportMeaning, too-many-runs, too-few, reported}
 use Rattle.report.proofs.Splits.{endsOf, text-is, text-long}
 

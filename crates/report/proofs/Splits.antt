@@ -22,9 +22,10 @@ use Rattle.repetitions.specs.BestSplit.{sizeOutcome, sizeEnds, lastCell, bestOu
 use Rattle.repetitions.proofs.Blocks.{half}
 use Rattle.repetitions.proofs.BestClaims.{word-answers, promised-settled}
 use Rattle.finder.specs.Find.{recordLimit}
-use Rattle.report.specs.Text.{programLimit, passesName, fewestName, mostName, noneText, line, runLines, blockLines, splitLines, splitText, text}
+use Rattle.report.specs.Text.{programLimit, passesName, fewestName, mostName, noneText, runLines, blockLines, splitLines, splitText, text}
+use Rattle.writers.specs.Line.{line}
 use Rattle.report.specs.Records.{mostBlocks, splitBytes, longestText}
-use Rattle.report.proofs.Stores.{line-long}
+use Rattle.writers.proofs.Stores.{line-long}
 use Rattle.report.proofs.Lines.{run-lines-long, block-lines-long}
 
 -- the ends of the best split

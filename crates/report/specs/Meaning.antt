@@ -5,11 +5,13 @@ use Prim.Native.Nat.{ℕ, _≤_, _<_}
 use lib.ListN.{length, drop}
 use Rattle.answers.specs.Outcome.{Outcome, accepted, refused}
 use Rattle.periods.specs.Period.{anyPeriod, turns}
-use Rattle.runs.specs.Run.{Row, Lists}
+use Rattle.runs.specs.declared.Record.{Record}
+use Rattle.runs.specs.Run.{Lists}
 use Rattle.factors.specs.Factorization.{Factorization, Choice, smallest, largest, size, Best}
 use Rattle.repetitions.specs.Block.{Block}
 use Rattle.finder.specs.Find.{recordLimit}
-use Rattle.report.specs.Text.{programLimit, passesName, fewestName, mostName, noneText, refusedText, line, runLines, blockLines}
+use Rattle.report.specs.Text.{programLimit, passesName, fewestName, mostName, noneText, refusedText, runLines, blockLines}
+use Rattle.writers.specs.Line.{line}
 
 -- "fewest with its size and then its blocks, and most in the same way"; "With no split it prints fewest,none and most,none."
 pub data SplitPrinted (w : List ℕ) (c : Choice) (name s : List ℕ) : Type 0 where
@@ -20,15 +22,15 @@ pub data SplitPrinted (w : List ℕ) (c : Choice) (name s : List ℕ) : Type 0 w
 pub data Printed (w s : List ℕ) : Type 0 where
   refused-alone : programLimit < length w → s ≡ refusedText → Printed w s
   all-lines :
-      length w ≤ programLimit → (rows : List Row) → Lists w rows → (fewest most : List ℕ) → SplitPrinted w smallest fewestName fewest → SplitPrinted w largest mostName most
+      length w ≤ programLimit → (rows : List Record) → Lists w rows → (fewest most : List ℕ) → SplitPrinted w smallest fewestName fewest → SplitPrinted w largest mostName most
       → s ≡ line passesName (length w ∷ []) ++ (runLines 0 rows ++ (fewest ++ most)) → Printed w s
 
 -- if the program takes the word, it holds records of all its runs
 abbrev pub Held : List ℕ → Type 0
-Held w = length w ≤ programLimit → (rows : List Row) → Lists w rows → length rows ≤ recordLimit
+Held w = length w ≤ programLimit → (rows : List Record) → Lists w rows → length rows ≤ recordLimit
 
 -- t is the lent table of bytes at entry, u at exit
 pub data ReportMeaning (w t : List ℕ) (o : Outcome) (u : List ℕ) : Type 0 where
-  too-many-runs : length w ≤ programLimit → (rows : List Row) → Lists w rows → recordLimit < length rows → o ≡ refused 7 0 → u ≡ t → ReportMeaning w t o u
+  too-many-runs : length w ≤ programLimit → (rows : List Record) → Lists w rows → recordLimit < length rows → o ≡ refused 7 0 → u ≡ t → ReportMeaning w t o u
   too-few : Held w → (s : List ℕ) → Printed w s → length t < length s → o ≡ refused 7 0 → u ≡ t → ReportMeaning w t o u
   reported : Held w → (s : List ℕ) → Printed w s → length s ≤ length t → o ≡ accepted (length s ∷ []) → u ≡ s ++ drop (length s) t → ReportMeaning w t o u

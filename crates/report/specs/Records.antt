@@ -1,21 +1,21 @@
--- What the inner functions go by: the records of the runs as the finder holds them, and a text where so many bytes are lent.
-use mathlib.Core.Bool.{cond}
-use mathlib.Core.List.{List, [], _∷_, _++_, map}
-use Prim.Native.Nat.{ℕ, _+_, _*_}
-use lib.Dec.{ltb}
-use lib.ListN.{length, drop}
-use Rattle.answers.specs.declared.Refusal.the-variants.{TooFewPlaces}
-use Rattle.answers.specs.Outcome.{Outcome, accepted, refusal}
-use Rattle.runs.specs.Run.{Row}
-use Rattle.finder.specs.declared.Run.{Run}
+-- What the inner functions go by: the records of the runs, and how long a text can be.
+use mathlib.Core.Path.{_≡_}
+use mathlib.Core.List.{List}
+use Prim.Native.Nat.{ℕ, _+_, _*_, _≤_}
+use lib.ListN.{length, take}
+use Rattle.runs.specs.declared.Record.{Record}
+use Rattle.runs.specs.Table.{runsOf, stride, records}
 use Rattle.finder.specs.Find.{recordLimit}
+use Rattle.report.specs.Text.{programLimit}
 
--- a run's record as the finder holds it
-abbrev pub held : Row → Run
-held r = record { first = r .first; last = r .last; period = r .period }
+-- the first count of the records that are held are those of the word's runs
+abbrev pub RunsHeld : List ℕ → List Record → ℕ → Type 0
+RunsHeld w runs count = (count ≤ recordLimit) × (take count runs ≡ runsOf w)
 
-abbrev pub heldRows : List Row → List Run
-heldRows rows = map held rows
+-- the program takes the word, and the first count records of a table are those of its runs
+abbrev pub RunsListed : List ℕ → List ℕ → ℕ → Type 0
+RunsListed w table count =
+    (length w ≤ programLimit) × (count ≤ recordLimit) × (stride * count ≤ length table) × (records count table ≡ runsOf w)
 
 -- the most bytes of a line: its name, at most eleven for a number with its comma, and the line's end
 abbrev pub lineBytes : ℕ → ℕ → ℕ
@@ -39,10 +39,3 @@ splitBytes = lineBytes 6 1 + blockBytes * mostBlocks
 -- the longest text: passes, the runs, and two splits
 abbrev pub longestText : ℕ
 longestText = lineBytes 6 1 + runBytes * recordLimit + 2 * splitBytes
-
--- a text, where so many bytes are lent
-abbrev pub printedOutcome : List ℕ → ℕ → Outcome
-printedOutcome s places = cond (ltb places (length s)) (refusal TooFewPlaces) (accepted (length s ∷ []))
-
-abbrev pub printedTable : List ℕ → List ℕ → List ℕ
-printedTable s t = cond (ltb (length t) (length s)) t (s ++ drop (length s) t)

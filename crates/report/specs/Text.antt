@@ -8,13 +8,13 @@ use lib.ListN.{length, drop}
 use Rattle.answers.specs.declared.Refusal.the-variants.{TooFewPlaces}
 use Rattle.answers.specs.Outcome.{Outcome, accepted, refusal}
 use Rattle.periods.specs.Period.{part, smallestPeriod, anyPeriod, turns}
-use Rattle.runs.specs.Run.{Row}
+use Rattle.runs.specs.declared.Record.{Record}
 use Rattle.runs.specs.Table.{runsOf, numbersOf}
 use Rattle.factors.specs.Factorization.{choiceOf, Cell, unreachable, reached, bestEnds}
-use Rattle.decimals.specs.Decimal.{comma, lineEnd, plain}
+use Rattle.writers.specs.Line.{line}
 use Rattle.repetitions.specs.Block.{block?}
 use Rattle.repetitions.specs.BestSplit.{lastCell}
-use Rattle.repetitions.specs.Judges.{runNumber}
+use Rattle.runs.specs.Number.{runNumber}
 use Rattle.finder.specs.Find.{recordLimit}
 
 -- "The program holds 1,024 passes"
@@ -49,17 +49,8 @@ noneText = 44 ∷ 110 ∷ 111 ∷ 110 ∷ 101 ∷ 10 ∷ []
 abbrev pub refusedText : List ℕ
 refusedText = 114 ∷ 101 ∷ 102 ∷ 117 ∷ 115 ∷ 101 ∷ 100 ∷ 44 ∷ 49 ∷ 10 ∷ []
 
--- numbers, each with a comma before it
-unfoldable pub fieldsOf : List ℕ → List ℕ
-fieldsOf [] = []
-fieldsOf (x ∷ xs) = comma ∷ (plain x ++ fieldsOf xs)
-
--- a line
-unfoldable pub line : List ℕ → List ℕ → List ℕ
-line name xs = name ++ (fieldsOf xs ++ (lineEnd ∷ []))
-
 -- "Run: number, first, last, unit." The lines of the runs from number i + 1 on
-unfoldable pub runLines : ℕ → List Row → List ℕ
+unfoldable pub runLines : ℕ → List Record → List ℕ
 runLines i [] = []
 runLines i (r ∷ rs) = line runName (suc i ∷ numbersOf r) ++ runLines (suc i) rs
 

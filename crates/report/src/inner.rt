@@ -1,95 +1,30 @@
-// For this crate's calls: the caller shows what each function requires. Every writer stores
-// from place at on, as far as there are bytes, and gives the place after what it wrote; so a first
-// pass over no bytes counts, and a second writes.
+// For this crate's call: the caller shows what each function requires. Every function stores from
+// place at on, as far as there are bytes, and gives the place after what it wrote; so a first pass
+// over no bytes counts, and a second writes.
 ghost use mathlib.Core.Path.{_≡_};
-ghost use mathlib.Core.List.{_∷_};
 ghost use Prim.Native.Nat.{_≤_, _<_, _+_, _*_, _^_};
-ghost use lib.ListN.{length, take, set};
+ghost use lib.ListN.{length, take};
 ghost use lib.Seq.{sets};
 ghost use Rattle.answers.specs.Outcome.{countedView};
 ghost use Rattle.periods.specs.Period.{anyPeriod, turns};
-ghost use Rattle.runs.specs.Table.{stride, runsOf};
-ghost use Rattle.runs.specs.Inner.{records};
-ghost use Rattle.factors.specs.Factorization.{Factorization};
-ghost use Rattle.decimals.specs.Decimal.{comma, plain};
+ghost use Rattle.runs.specs.Table.{stride, runsOf, records};
+ghost use Rattle.factors.specs.Factorization.{Factorization, fewest, most};
 ghost use Rattle.repetitions.specs.Block.{Block};
+ghost use Rattle.writers.specs.Line.{printedOutcome, printedTable};
 ghost use Rattle.finder.specs.Find.{recordLimit};
-ghost use Rattle.report.specs.Text.{programLimit, refusedText, line, runLines, blockLine, blockLines, splitText, text};
-ghost use Rattle.report.specs.Records.{heldRows, printedOutcome, printedTable};
+ghost use Rattle.report.specs.Text.{programLimit, refusedText, runLines, blockLine, blockLines, splitText, text};
+ghost use Rattle.report.specs.Records.{RunsHeld, RunsListed};
 use crate::PROGRAM_LIMIT;
 use answers::Counted;
 use answers::Refusal;
-use decimals::COMMA;
-use decimals::LINE_END;
 use finder::RECORDS;
-use finder::Run;
-
-// The choices of best split.
-const FEWEST: u32 = 1;
-
-const MOST: u32 = 2;
+use runs::Record;
 
 // A block has two symbols at least.
 const MOST_BLOCKS: usize = PROGRAM_LIMIT / 2;
 
 // The report of a word that is too long.
 const REFUSED: [u8; 10] = *b"refused,1\n";
-
-// Stores a byte where there is a place for it.
-fn put_byte(out: &mut [u8], at: usize, b: u8) -> usize
-    requires { ⌜ at < 2 ^ 32 ⌝ }
-    ensures { λ r. ⌜ r ≡ at + 1 ⌝ }
-    ensures { λ _. ⌜ now (out .exit) ≡ set (now (out .entry)) at b ⌝ }
-{
-    if out.len() <= at {
-        return at + 1;
-    }
-    out[at] = b;
-    at + 1
-}
-
-// Stores bytes.
-fn put_text(out: &mut [u8], at: usize, s: &[u8]) -> usize
-    requires { ⌜ (at < 2 ^ 31) × (length (now s) < 2 ^ 31) ⌝ }
-    ensures { λ r. ⌜ r ≡ at + length (now (s .entry)) ⌝ }
-    ensures { λ _. ⌜ now (out .exit) ≡ sets (now (out .entry)) at (now (s .entry)) ⌝ }
-{
-    let mut i: usize = 0;
-    while i < s.len() {
-        put_byte(out, at + i, s[i]);
-        i += 1;
-    }
-    at + i
-}
-
-// Stores a comma and a number with no leading zeros.
-fn put_field(out: &mut [u8], at: usize, x: u32) -> usize
-    requires { ⌜ at < 2 ^ 30 ⌝ }
-    ensures { λ r. ⌜ r ≡ at + length (comma ∷ plain x) ⌝ }
-    ensures { λ _. ⌜ now (out .exit) ≡ sets (now (out .entry)) at (comma ∷ plain x) ⌝ }
-{
-    let mut digits = [0u8; 10];
-    let zero: usize = 0;
-    let k = decimals::inner::count(x);
-    decimals::inner::write(&mut digits, zero, k, x);
-    let next = put_byte(out, at, COMMA);
-    put_text(out, next, &digits[zero..k])
-}
-
-// Stores a line: a name, and numbers with a comma before each.
-fn put_line(out: &mut [u8], at: usize, name: &[u8], xs: &[u32]) -> usize
-    requires { ⌜ (at < 2 ^ 29) × (length (now name) ≤ 6) × (length (now xs) ≤ 7) ⌝ }
-    ensures { λ r. ⌜ r ≡ at + length (line (now (name .entry)) (now (xs .entry))) ⌝ }
-    ensures { λ _. ⌜ now (out .exit) ≡ sets (now (out .entry)) at (line (now (name .entry)) (now (xs .entry))) ⌝ }
-{
-    let mut next = put_text(out, at, name);
-    let mut i: usize = 0;
-    while i < xs.len() {
-        next = put_field(out, next, xs[i]);
-        i += 1;
-    }
-    put_byte(out, next, LINE_END)
-}
 
 // Stores the lines of the runs, from the table of their records.
 fn run_lines(table: &[u32], count: usize, out: &mut [u8], at: usize) -> usize
@@ -100,14 +35,9 @@ fn run_lines(table: &[u32], count: usize, out: &mut [u8], at: usize) -> usize
     let mut next = at;
     let mut i: usize = 0;
     while i < count {
-        let place = runs::STRIDE * i;
-        let numbers = [
-            (i + 1) as u32,
-            table[place],
-            table[place + 1],
-            table[place + 2],
-        ];
-        next = put_line(out, next, b"run", &numbers);
+        let run = runs::inner::row(table, i);
+        let numbers = [(i + 1) as u32, run.first, run.last, run.period];
+        next = writers::inner::put_line(out, next, b"run", &numbers);
         i += 1;
     }
     next
@@ -120,13 +50,13 @@ fn block_line(
     k: usize,
     before: usize,
     end: usize,
-    runs: [Run; RECORDS],
+    runs: [Record; RECORDS],
     count: usize,
     out: &mut [u8],
     at: usize,
 ) -> usize
     requires { ⌜ (at < 2 ^ 29) × (length (now w) ≤ programLimit) × (k ≤ before) × Block anyPeriod turns (now w) before end ⌝ }
-    requires { ⌜ (count ≤ recordLimit) × (take count runs ≡ heldRows (runsOf (now w))) ⌝ }
+    requires { ⌜ RunsHeld (now w) runs count ⌝ }
     ensures { λ r. ⌜ r ≡ at + length (blockLine (now (w .entry)) (k + 1) before end) ⌝ }
     ensures { λ _. ⌜ now (out .exit) ≡ sets (now (out .entry)) at (blockLine (now (w .entry)) (k + 1) before end) ⌝ }
 {
@@ -142,20 +72,20 @@ fn block_line(
         (len % unit) as u32,
         run as u32,
     ];
-    put_line(out, at, b"block", &numbers)
+    writers::inner::put_line(out, at, b"block", &numbers)
 }
 
 // Stores the lines of the blocks with these ends.
 fn block_lines(
     w: &[u8],
     ends: &[u32],
-    runs: [Run; RECORDS],
+    runs: [Record; RECORDS],
     count: usize,
     out: &mut [u8],
     at: usize,
 ) -> usize
     requires { ⌜ (at < 2 ^ 20) × (length (now w) ≤ programLimit) × Factorization (Block anyPeriod turns (now w)) (length (now w)) (now ends) ⌝ }
-    requires { ⌜ (count ≤ recordLimit) × (take count runs ≡ heldRows (runsOf (now w))) ⌝ }
+    requires { ⌜ RunsHeld (now w) runs count ⌝ }
     ensures { λ r. ⌜ r ≡ at + length (blockLines (now (w .entry)) 0 0 (now (ends .entry))) ⌝ }
     ensures { λ _. ⌜ now (out .exit) ≡ sets (now (out .entry)) at (blockLines (now (w .entry)) 0 0 (now (ends .entry))) ⌝ }
 {
@@ -176,13 +106,13 @@ fn split_lines(
     w: &[u8],
     choice: u32,
     name: &[u8],
-    runs: [Run; RECORDS],
+    runs: [Record; RECORDS],
     count: usize,
     out: &mut [u8],
     at: usize,
 ) -> usize
-    requires { ⌜ (at < 2 ^ 19) × (length (now w) ≤ programLimit) × (1 ≤ choice) × (choice ≤ 2) × (length (now name) ≤ 6) ⌝ }
-    requires { ⌜ (count ≤ recordLimit) × (take count runs ≡ heldRows (runsOf (now w))) ⌝ }
+    requires { ⌜ (at < 2 ^ 19) × (length (now w) ≤ programLimit) × (fewest ≤ choice) × (choice ≤ most) × (length (now name) ≤ 6) ⌝ }
+    requires { ⌜ RunsHeld (now w) runs count ⌝ }
     ensures { λ r. ⌜ r ≡ at + length (splitText (now (w .entry)) choice (now (name .entry))) ⌝ }
     ensures { λ _. ⌜ now (out .exit) ≡ sets (now (out .entry)) at (splitText (now (w .entry)) choice (now (name .entry))) ⌝ }
 {
@@ -191,12 +121,12 @@ fn split_lines(
     let best = repetitions::best_split(w, choice, &mut ends, &mut work);
     match best {
         Counted::Refused(_) => {
-            let next = put_text(out, at, name);
-            put_text(out, next, b",none\n")
+            let next = writers::inner::put_text(out, at, name);
+            writers::inner::put_text(out, next, b",none\n")
         }
         Counted::Count(size) => {
             let sizes = [size];
-            let next = put_line(out, at, name, &sizes);
+            let next = writers::inner::put_line(out, at, name, &sizes);
             let zero: usize = 0;
             let blocks = size as usize;
             block_lines(w, &ends[zero..blocks], runs, count, out, next)
@@ -205,27 +135,33 @@ fn split_lines(
 }
 
 // Stores the whole text, from the runs in the table and in the records.
-fn write_text(w: &[u8], table: &[u32], runs: [Run; RECORDS], count: usize, out: &mut [u8]) -> usize
-    requires { ⌜ (length (now w) ≤ programLimit) × (count ≤ recordLimit) × (stride * count ≤ length (now table)) × (records count (now table) ≡ runsOf (now w)) × (take count runs ≡ heldRows (runsOf (now w))) ⌝ }
+fn write_text(
+    w: &[u8],
+    table: &[u32],
+    runs: [Record; RECORDS],
+    count: usize,
+    out: &mut [u8],
+) -> usize
+    requires { ⌜ RunsListed (now w) (now table) count × (take count runs ≡ runsOf (now w)) ⌝ }
     ensures { λ r. ⌜ r ≡ length (text (now (w .entry))) ⌝ }
     ensures { λ _. ⌜ now (out .exit) ≡ sets (now (out .entry)) 0 (text (now (w .entry))) ⌝ }
 {
     let zero: usize = 0;
     let passes = [w.len() as u32];
-    let runs_from = put_line(out, zero, b"passes", &passes);
+    let runs_from = writers::inner::put_line(out, zero, b"passes", &passes);
     let fewest_from = run_lines(table, count, out, runs_from);
-    let most_from = split_lines(w, FEWEST, b"fewest", runs, count, out, fewest_from);
-    split_lines(w, MOST, b"most", runs, count, out, most_from)
+    let most_from = split_lines(w, factors::FEWEST, b"fewest", runs, count, out, fewest_from);
+    split_lines(w, factors::MOST, b"most", runs, count, out, most_from)
 }
 
 // The report of a word that the program holds, from the table of its runs: counts the bytes, and
 // writes them where so many are lent.
 pub(crate) fn print(w: &[u8], table: &[u32], count: usize, out: &mut [u8]) -> Counted
-    requires { ⌜ (length (now w) ≤ programLimit) × (count ≤ recordLimit) × (stride * count ≤ length (now table)) × (records count (now table) ≡ runsOf (now w)) ⌝ }
+    requires { ⌜ RunsListed (now w) (now table) count ⌝ }
     ensures { λ r. ⌜ countedView r ≡ printedOutcome (text (now (w .entry))) (length (now (out .entry))) ⌝ }
     ensures { λ _. ⌜ now (out .exit) ≡ printedTable (text (now (w .entry))) (now (out .entry)) ⌝ }
 {
-    let runs = finder::inner::records(table, count);
+    let runs = finder::inner::held(table, count);
     let zero: usize = 0;
     let size = write_text(w, table, runs, count, &mut out[zero..zero]);
     if out.len() < size {
@@ -241,10 +177,10 @@ pub(crate) fn refuse(out: &mut [u8]) -> Counted
     ensures { λ _. ⌜ now (out .exit) ≡ printedTable refusedText (now (out .entry)) ⌝ }
 {
     let zero: usize = 0;
-    let size = put_text(&mut out[zero..zero], zero, &REFUSED);
+    let size = writers::inner::put_text(&mut out[zero..zero], zero, &REFUSED);
     if out.len() < size {
         return Counted::Refused(Refusal::TooFewPlaces);
     }
-    put_text(out, zero, &REFUSED);
+    writers::inner::put_text(out, zero, &REFUSED);
     Counted::Count(size as u32)
 }

@@ -1,29 +1,20 @@
--- What the runs call and the nodes call answer and write means what document 01 says, for every word, position and table: `runs-mean`, `nodes-mean`. One law
--- for each outcome gives both from the tests that lead to it. By the order of the tests in the definitions. Assumes nothing.
-use mathlib.Core.Path.{_≡_, refl, sym, ap, _∙_}
-use mathlib.Core.Bool.{true, false, _||_}
+-- What the runs call answers and writes means what document 01 says, for every word and table: `runs-mean`. One law for each outcome gives both from the tests
+-- that lead to it. By the order of the tests in the definitions. Assumes nothing.
+use mathlib.Core.Path.{_≡_, sym, ap, _∙_}
 use mathlib.Core.List.{List, [], _∷_, _++_}
 use Prim.Native.Nat.{ℕ, _*_, _≤_, _<_}
 use native.Mathlib.Omega.{arith}
-use native.Mathlib.Decide.{decLt, decLe}
+use native.Mathlib.Decide.{decLt}
 use borrow.Author.Tests.{lt-ltb, le-ltb}
-use lib.Dec.{ltb}
 use lib.ListN.{length, drop}
 use lib.Seq.{sets}
-use Rattle.answers.proofs.Stores.{sets-front}
-use Rattle.answers.proofs.Tests.{or-true}
 use Rattle.answers.specs.Outcome.{Outcome, accepted, refused, limit}
-use Rattle.periods.specs.Period.{anyPeriod, turns}
-use Rattle.runs.specs.Table.{runsOf, stride, flat, nodesAt}
-use Rattle.runs.specs.Calls as calls
-use Rattle.runs.specs.Calls.{runsOutcome, runsTable, RunsMeaning, nodesOutcome, nodesTable, NodesMeaning, ListsNodes}
+use Rattle.runs.specs.Table.{runsOf, stride, flat}
+use Rattle.runs.specs.Calls.{runsOutcome, runsTable, RunsMeaning}
 use Rattle.runs.proofs.Listed.{runs-listed}
 use Rattle.runs.proofs.Rows.{length-flat}
-use Rattle.runs.proofs.WhiteNodes.{nodes-listed}
-
--- numbers that are stored at the front of a table with room for them
-stored-front : (t u v vs : List ℕ) (n : ℕ) → u ≡ t → v ≡ sets u 0 vs → n ≡ length vs → n ≤ length t → v ≡ vs ++ drop n t
-stored-front t u v vs n e f g h = f ∙ rw e (sets-front t vs (omega arith)) ∙ ap (λ (k : ℕ). vs ++ drop k t) (sym g)
+use Rattle.laws.proofs.Stores.{stored-front}
+use Rattle.runs.specs.Calls as calls
 
 -- ---- the runs call; t is the table at entry, u the table at exit
 
@@ -76,80 +67,3 @@ module _ (w t : List ℕ) where
   -- the answer and the table with their meaning
   pub runs-answered : (o : Outcome) (u : List ℕ) → RunsGive w t o u → (o ≡ runsOutcome w (length t)) × ((u ≡ runsTable w t) × RunsMeaning w t o u)
   runs-answered o u g = (g .0, (g .1, rw (g .0, g .1) runs-mean))
-
--- ---- the nodes call
-
-abbrev pub NodesGive : List ℕ → ℕ → List ℕ → Outcome → List ℕ → Type 0
-NodesGive w x t o u = (o ≡ nodesOutcome w x (length t)) × (u ≡ nodesTable w x t)
-
-module _ (w : List ℕ) (x : ℕ) where
-  outside-tests : ((1 ≤ x) × (x ≤ length w) → ⊥) → (ltb x 1 || ltb (length w) x) ≡ true
-  outside-tests h = go (decLt x 1) (decLt (length w) x)
-    where
-      go : Dec (x < 1) → Dec (length w < x) → (ltb x 1 || ltb (length w) x) ≡ true
-      go (yes y) z = rw (lt-ltb x 1 y) refl
-      go (no y) (yes z) = rw (lt-ltb (length w) x z) (or-true (ltb x 1))
-      go (no y) (no z) = absurd (h (omega arith, omega arith))
-
-  within-tests : (1 ≤ x) × (x ≤ length w) → (ltb x 1 || ltb (length w) x) ≡ false
-  within-tests h = simp (le-ltb x 1 (h .0), le-ltb (length w) x (h .1))
-
-  -- the numbers of the nodes, and how many there are
-  abbrev numbers : List ℕ
-  numbers = nodesAt anyPeriod turns w x
-
-  pub listed-nodes : ListsNodes anyPeriod turns (runsOf w) x numbers
-  unfolding nodesAt
-  listed-nodes = nodes-listed anyPeriod turns (runsOf w) x
-
-  module _ (t : List ℕ) where
-    pub nodes-too-long : limit < length w → NodesGive w x t (refused 1 0) t
-    unfolding nodesOutcome nodesTable
-    nodes-too-long h = (simp (lt-ltb limit (length w) h), simp (lt-ltb limit (length w) h))
-
-    pub nodes-outside : length w ≤ limit → ((1 ≤ x) × (x ≤ length w) → ⊥) → NodesGive w x t (refused 6 0) t
-    unfolding nodesOutcome nodesTable
-    nodes-outside h k = (simp (le-ltb limit (length w) h, outside-tests k), simp (le-ltb limit (length w) h, outside-tests k))
-
-    pub nodes-few : length w ≤ limit → (1 ≤ x) × (x ≤ length w) → length t < length numbers → NodesGive w x t (refused 7 0) t
-    unfolding nodesOutcome nodesTable
-    nodes-few h k l = (
-      simp (le-ltb limit (length w) h, within-tests k, lt-ltb (length t) (length numbers) l),
-      simp (le-ltb limit (length w) h, within-tests k, lt-ltb (length t) (length numbers) l),
-    )
-
-    pub nodes-all : length w ≤ limit → (1 ≤ x) × (x ≤ length w) → length numbers ≤ length t
-        → NodesGive w x t (accepted (length numbers ∷ [])) (numbers ++ drop (length numbers) t)
-    unfolding nodesOutcome nodesTable
-    nodes-all h k l = (
-      simp (le-ltb limit (length w) h, within-tests k, le-ltb (length t) (length numbers) l),
-      simp (le-ltb limit (length w) h, within-tests k, le-ltb (length t) (length numbers) l),
-    )
-
-    pub nodes-too-few : (u : List ℕ) (count : ℕ) → length w ≤ limit → (1 ≤ x) × (x ≤ length w) → count ≡ length numbers → u ≡ t → length t < count
-        → NodesGive w x t (refused 7 0) u
-    nodes-too-few u count h k e f l = let g = nodes-few h k (omega arith) in (g .0, f ∙ g .1)
-
-    pub nodes-written : (u v : List ℕ) (count : ℕ) → length w ≤ limit → (1 ≤ x) × (x ≤ length w) → count ≡ length numbers → u ≡ t → count ≤ length t
-        → v ≡ sets u 0 numbers → NodesGive w x t (accepted (count ∷ [])) v
-    nodes-written u v count h k e f l s =
-        let g = nodes-all h k (omega arith) in
-        (ap (λ (n : ℕ). accepted (n ∷ [])) e ∙ g .0, stored-front t u v numbers (length numbers) f s refl (omega arith) ∙ g .1)
-
-    -- CLAIM: what the nodes call answers and writes means what document 01 says
-    pub nodes-mean : NodesMeaning w x t (nodesOutcome w x (length t)) (nodesTable w x t)
-    nodes-mean = go (decLt limit (length w)) (decLe 1 x) (decLe x (length w)) (decLt (length t) (length numbers))
-      where
-        go : Dec (limit < length w) → Dec (1 ≤ x) → Dec (x ≤ length w) → Dec (length t < length numbers) → NodesMeaning w x t (nodesOutcome w x (length t)) (nodesTable w x t)
-        go (yes h) a b y = let g = nodes-too-long h in calls.NodesMeaning.too-long h (sym (g .0)) (sym (g .1))
-        go (no h) (no a) b y = let g = nodes-outside (omega arith) (λ k. a (k .0)) in calls.NodesMeaning.outside (omega arith) (λ k. a (k .0)) (sym (g .0)) (sym (g .1))
-        go (no h) (yes a) (no b) y = let g = nodes-outside (omega arith) (λ k. b (k .1)) in calls.NodesMeaning.outside (omega arith) (λ k. b (k .1)) (sym (g .0)) (sym (g .1))
-        go (no h) (yes a) (yes b) (yes y) =
-            let g = nodes-few (omega arith) (a, b) y in
-            calls.NodesMeaning.too-few (omega arith) (a, b) (runsOf w) (runs-listed w) numbers listed-nodes y (sym (g .0)) (sym (g .1))
-        go (no h) (yes a) (yes b) (no y) =
-            let g = nodes-all (omega arith) (a, b) (omega arith) in
-            calls.NodesMeaning.listed (omega arith) (a, b) (runsOf w) (runs-listed w) numbers listed-nodes (omega arith) (sym (g .0)) (sym (g .1))
-
-    pub nodes-answered : (o : Outcome) (u : List ℕ) → NodesGive w x t o u → (o ≡ nodesOutcome w x (length t)) × ((u ≡ nodesTable w x t) × NodesMeaning w x t o u)
-    nodes-answered o u g = (g .0, (g .1, rw (g .0, g .1) nodes-mean))

@@ -3,8 +3,7 @@ pub mod Entries
 pub mod Listed
 pub mod Rows
 pub mod Records
-pub mod WhiteNodes
+pub mod Number
 pub mod CallClaims
 pub mod Determined
-pub mod LookUps
 pub mod Examples

@@ -10,11 +10,12 @@ use native.Mathlib.Omega.{arith}
 use native.Mathlib.Decide.{decLt, ℕ-discrete}
 use lib.Dec.{T, eqb, eqb→eq, eqb-refl, T-not, not-T}
 use lib.ListN.{length}
-use Rattle.answers.proofs.Tests.{and-intro, and-left, and-right, or-cases, or-left, or-right}
+use Rattle.laws.proofs.Tests.{and-intro, and-left, and-right, or-cases, or-left, or-right}
 use Rattle.periods.specs.Period.{part, smallestPeriod, repetition?, anyPeriod}
 use Rattle.periods.proofs.InPlace.{symbol, placed-part, period-piece}
 use Rattle.periods.proofs.Claims.{smallest-period-is, smallest-period-unique, repetition-sound, repetition-complete, part-smallest, part-smallest-unique}
-use Rattle.runs.specs.Run.{Row, Run, Entry, Before, Sorted, Lists}
+use Rattle.runs.specs.declared.Record.{Record}
+use Rattle.runs.specs.Run.{Run, Entry, Before, Sorted, Lists}
 use Rattle.runs.specs.Table.{left?, right?, run?, runBetween, rowsAt, rowsBefore, runsOf}
 use Rattle.runs.proofs.InPlace.{RunIn, run-in, run-out, run-unique}
 use Rattle.runs.proofs.Entries.{entry-left, entry-right, entry-cases, sorted-append}
@@ -96,15 +97,15 @@ module _ (w : List ℕ) (a b : ℕ) (l : b ≤ length w) where
 -- ---- the records
 
 -- r is the record of the run between the boundaries a and b
-pub record IsRow (w : List ℕ) (a b : ℕ) (r : Row) : Type 0 where
+pub record IsRow (w : List ℕ) (a b : ℕ) (r : Record) : Type 0 where
   pub test : T (run? w a b)
   pub is : r ≡ record { first = suc a; last = b; period = smallestPeriod (part w a b) }
 
-between-sound : (w : List ℕ) (a b i : ℕ) (r : Row) → Entry (runBetween w a b) i r → IsRow w a b r
+between-sound : (w : List ℕ) (a b i : ℕ) (r : Record) → Entry (runBetween w a b) i r → IsRow w a b r
 unfolding runBetween
 between-sound w a b i r h = go (run? w a b) refl i h
   where
-    row : Row
+    row : Record
     row = record { first = suc a; last = b; period = smallestPeriod (part w a b) }
 
     go : (t : Bool) → run? w a b ≡ t → (i : ℕ) → Entry (cond t (row ∷ []) []) i r → IsRow w a b r
@@ -117,7 +118,7 @@ between-complete : (w : List ℕ) (a b : ℕ) → T (run? w a b) → Entry (runB
 unfolding runBetween
 between-complete w a b t = go (run? w a b) t
   where
-    row : Row
+    row : Record
     row = record { first = suc a; last = b; period = smallestPeriod (part w a b) }
 
     go : (u : Bool) → T u → Entry (cond u (row ∷ []) []) 1 row
@@ -128,31 +129,31 @@ between-sorted : (w : List ℕ) (a b : ℕ) → Sorted (runBetween w a b)
 unfolding runBetween
 between-sorted w a b = go (run? w a b)
   where
-    row : Row
+    row : Record
     row = record { first = suc a; last = b; period = smallestPeriod (part w a b) }
 
     go : (u : Bool) → Sorted (cond u (row ∷ []) [])
     go true = (λ i r h. none i r h, tt)
       where
-        none : (i : ℕ) (r : Row) → Entry [] i r → Before row r
+        none : (i : ℕ) (r : Record) → Entry [] i r → Before row r
         none zero r h = absurd h
         none (suc i) r h = absurd h
     go false = tt
 
 -- an entry among the runs after boundary a
-pub record RowAt (w : List ℕ) (a d : ℕ) (r : Row) : Type 0 where
+pub record RowAt (w : List ℕ) (a d : ℕ) (r : Record) : Type 0 where
   pub end : ℕ
   pub after : a < end
   pub upto : end ≤ a + d
   pub row : IsRow w a end r
 
-pub at-sound : (w : List ℕ) (a d i : ℕ) (r : Row) → Entry (rowsAt w a d) i r → RowAt w a d r
+pub at-sound : (w : List ℕ) (a d i : ℕ) (r : Record) → Entry (rowsAt w a d) i r → RowAt w a d r
 unfolding rowsAt
 at-sound w a zero zero r h = absurd h
 at-sound w a zero (suc i) r h = absurd h
 at-sound w a (suc d) i r h = go (at-sound w a d) (entry-cases (rowsAt w a d) (runBetween w a (a + suc d)) i r h)
   where
-    go : ((i : ℕ) (r : Row) → Entry (rowsAt w a d) i r → RowAt w a d r)
+    go : ((i : ℕ) (r : Record) → Entry (rowsAt w a d) i r → RowAt w a d r)
         → Entry (rowsAt w a d) i r ⊎ ((j : ℕ) × (i ≡ length (rowsAt w a d) + j) × Entry (runBetween w a (a + suc d)) j r) → RowAt w a (suc d) r
     go ih (inl k) = let X = ih i r k in record { end = X .end; after = X .after; upto = omega (arith, X .upto); row = X .row }
     go ih (inr (j, e, k)) = record { end = a + suc d; after = omega arith; upto = omega arith; row = between-sound w a (a + suc d) j r k }
@@ -163,7 +164,7 @@ unfolding rowsAt
 at-complete w a zero b x y t = absurd (omega arith)
 at-complete w a (suc d) b x y t = go (λ z. at-complete w a d b x z t) (ℕ-discrete b (a + suc d))
   where
-    row : ℕ → Row
+    row : ℕ → Record
     row b = record { first = suc a; last = b; period = smallestPeriod (part w a b) }
 
     go : (b ≤ a + d → (i : ℕ) × Entry (rowsAt w a d) i (row b)) → Dec (b ≡ a + suc d) → (i : ℕ) × Entry (rowsAt w a d ++ runBetween w a (a + suc d)) i (row b)
@@ -207,28 +208,28 @@ at-sorted w a zero h = tt
 at-sorted w a (suc d) h =
     sorted-append (rowsAt w a d) (runBetween w a (a + suc d)) (at-sorted w a d (omega arith)) (between-sorted w a (a + suc d)) across
   where
-    across : (i j : ℕ) (r s : Row) → Entry (rowsAt w a d) i r → Entry (runBetween w a (a + suc d)) j s → Before r s
+    across : (i j : ℕ) (r s : Record) → Entry (rowsAt w a d) i r → Entry (runBetween w a (a + suc d)) j s → Before r s
     across i j r s x y =
         let X = at-sound w a d i r x in
         let Y = between-sound w a (a + suc d) j s y in
         inr (
-          ap (λ (z : Row). z .first) (X .row .is) ∙ sym (ap (λ (z : Row). z .first) (Y .is)),
-          omega (arith, ap (λ (z : Row). z .period) (X .row .is), ap (λ (z : Row). z .period) (Y .is), later-greater w a (X .end) (a + suc d) (omega (arith, X .upto)) h (X .row .test) (Y .test)),
+          ap (λ (z : Record). z .first) (X .row .is) ∙ sym (ap (λ (z : Record). z .first) (Y .is)),
+          omega (arith, ap (λ (z : Record). z .period) (X .row .is), ap (λ (z : Record). z .period) (Y .is), later-greater w a (X .end) (a + suc d) (omega (arith, X .upto)) h (X .row .test) (Y .test)),
         )
 
 -- an entry among the runs after the boundaries below a
-pub record RowBefore (w : List ℕ) (a : ℕ) (r : Row) : Type 0 where
+pub record RowBefore (w : List ℕ) (a : ℕ) (r : Record) : Type 0 where
   pub start : ℕ
   pub below : start < a
   pub at : RowAt w start (length w - start) r
 
-pub before-sound : (w : List ℕ) (a i : ℕ) (r : Row) → Entry (rowsBefore w a) i r → RowBefore w a r
+pub before-sound : (w : List ℕ) (a i : ℕ) (r : Record) → Entry (rowsBefore w a) i r → RowBefore w a r
 unfolding rowsBefore
 before-sound w zero zero r h = absurd h
 before-sound w zero (suc i) r h = absurd h
 before-sound w (suc a) i r h = go (before-sound w a) (entry-cases (rowsBefore w a) (rowsAt w a (length w - a)) i r h)
   where
-    go : ((i : ℕ) (r : Row) → Entry (rowsBefore w a) i r → RowBefore w a r)
+    go : ((i : ℕ) (r : Record) → Entry (rowsBefore w a) i r → RowBefore w a r)
         → Entry (rowsBefore w a) i r ⊎ ((j : ℕ) × (i ≡ length (rowsBefore w a) + j) × Entry (rowsAt w a (length w - a)) j r) → RowBefore w (suc a) r
     go ih (inl k) = let X = ih i r k in record { start = X .start; below = omega (arith, X .below); at = X .at }
     go ih (inr (j, e, k)) = record { start = a; below = omega arith; at = at-sound w a (length w - a) j r k }
@@ -239,7 +240,7 @@ unfolding rowsBefore
 before-complete w zero start b x y z t = absurd (omega arith)
 before-complete w (suc a) start b x y z t = go (λ l. before-complete w a start b l y z t) (ℕ-discrete start a)
   where
-    row : Row
+    row : Record
     row = record { first = suc start; last = b; period = smallestPeriod (part w start b) }
 
     go : (start < a → (i : ℕ) × Entry (rowsBefore w a) i row) → Dec (start ≡ a) → (i : ℕ) × Entry (rowsBefore w a ++ rowsAt w a (length w - a)) i row
@@ -256,21 +257,21 @@ before-sorted w zero h = tt
 before-sorted w (suc a) h =
     sorted-append (rowsBefore w a) (rowsAt w a (length w - a)) (before-sorted w a (omega arith)) (at-sorted w a (length w - a) (omega arith)) across
   where
-    across : (i j : ℕ) (r s : Row) → Entry (rowsBefore w a) i r → Entry (rowsAt w a (length w - a)) j s → Before r s
+    across : (i j : ℕ) (r s : Record) → Entry (rowsBefore w a) i r → Entry (rowsAt w a (length w - a)) j s → Before r s
     across i j r s x y =
         let X = before-sound w a i r x in
         let Y = at-sound w a (length w - a) j s y in
-        inl (omega (arith, ap (λ (z : Row). z .first) (X .at .row .is), ap (λ (z : Row). z .first) (Y .row .is), X .below))
+        inl (omega (arith, ap (λ (z : Record). z .first) (X .at .row .is), ap (λ (z : Record). z .first) (Y .row .is), X .below))
 
 -- CLAIM: the table of runs has exactly the runs of the word, sorted by first and then by period
 pub runs-listed : (w : List ℕ) → Lists w (runsOf w)
 unfolding runsOf
 runs-listed w = record { sorted = before-sorted w (length w) (omega arith); sound = sound; complete = complete }
   where
-    sound : (i : ℕ) (r : Row) → Entry (rowsBefore w (length w)) i r → Run w (r .first) (r .last) (r .period)
+    sound : (i : ℕ) (r : Record) → Entry (rowsBefore w (length w)) i r → Run w (r .first) (r .last) (r .period)
     sound i r h =
         let X = before-sound w (length w) i r h in
-        subst (λ (x : Row). Run w (x .first) (x .last) (x .period)) (sym (X .at .row .is))
+        subst (λ (x : Record). Run w (x .first) (x .last) (x .period)) (sym (X .at .row .is))
         (run-out w (X .start) (X .at .end) (smallestPeriod (part w (X .start) (X .at .end)))
         (run-sound w (X .start) (X .at .end) (omega (arith, X .at .upto, X .below)) (X .at .row .test)))
 
@@ -280,7 +281,7 @@ runs-listed w = record { sorted = before-sorted w (length w) (omega arith); soun
         let C = run-complete w (first - 1) last (R .ends) p I in
         let k = before-complete w (length w) (first - 1) last
         (omega (arith, I .twice, I .smallest .period .positive, R .ends)) (omega (arith, I .twice, I .smallest .period .positive)) (R .ends) (C .1) in
-        (k .0, subst (λ (x : Row). Entry (rowsBefore w (length w)) (k .0) x) (rows (suc (first - 1)) first last (smallestPeriod (part w (first - 1) last)) p (omega (arith, R .starts)) (sym (C .0))) (k .1))
+        (k .0, subst (λ (x : Record). Entry (rowsBefore w (length w)) (k .0) x) (rows (suc (first - 1)) first last (smallestPeriod (part w (first - 1) last)) p (omega (arith, R .starts)) (sym (C .0))) (k .1))
       where
-        rows : (a b l p q : ℕ) → a ≡ b → p ≡ q → _≡_ {A = Row} record { first = a; last = l; period = p } record { first = b; last = l; period = q }
+        rows : (a b l p q : ℕ) → a ≡ b → p ≡ q → _≡_ {A = Record} record { first = a; last = l; period = p } record { first = b; last = l; period = q }
         rows a b l p q e f = λ i. record { first = e i; last = l; period = f i }

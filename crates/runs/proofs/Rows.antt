@@ -1,26 +1,26 @@
 -- Laws of the table of runs that its code goes by: the tests of `run?` one after the other, one more boundary, one more record, what a table holds after the
--- records or the counts are stored. By unfolding the definitions and induction on them. Assumes nothing.
+-- records are stored. By unfolding the definitions and induction on them. Assumes nothing.
 use mathlib.Core.Path.{_≡_, refl, sym, ap, ap₂, _∙_}
 use mathlib.Core.Logic.{_≢_}
-use mathlib.Core.Bool.{Bool, true, false, not, cond, _&&_}
-use mathlib.Core.List.{List, [], _∷_, _++_, append-assoc, append-nil}
+use mathlib.Core.Bool.{Bool, true, false, not, cond, and-false}
+use mathlib.Core.List.{List, [], _∷_, _++_, append-nil}
 use Prim.Native.Nat.{ℕ, zero, suc, _+_, _-_, _*_, _≤_, _<_}
 use native.Mathlib.Omega.{arith}
 use native.Mathlib.Numerals.{add-one}
 use native.Mathlib.Nat.{zero-add}
 use borrow.Author.Tests.{le-leb, lt-leb, eq-eqb, ne-eqb}
 use lib.Dec.{leb, eqb}
-use lib.ListN.{length, getD, set, drop, length-append, length-drop, List·getD-append}
-use lib.Seq.{sets, take-take, drop-cons, set-at}
-use Rattle.answers.proofs.Stores.{sets-append, sets-none}
+use lib.ListN.{length, getD, drop, length-append, List·getD-append}
+use lib.Seq.{sets, take-take}
+use Rattle.laws.proofs.Stores.{sets-append}
 use Rattle.answers.specs.Outcome.{limit}
 use Rattle.periods.specs.Period.{part, smallestPeriod, repetition?, anyPeriod, prefixPeriods}
 use Rattle.periods.proofs.InPlace.{placed-part}
 use Rattle.periods.proofs.Claims.{prefix-periods-length, prefix-periods-at}
 use Rattle.periods.proofs.PartClaims.{repetition-any}
-use Rattle.runs.specs.Run.{Row}
+use Rattle.runs.specs.declared.Record.{Record}
 use Rattle.runs.specs.Table.{left?, right?, run?, runBetween, rowsAt, rowsBefore, runsOf, stride, flat}
-use Rattle.runs.specs.Inner.{unitsAt, unitsBefore, rowsLeft, countsOf}
+use Rattle.runs.specs.Inner.{unitsAt, unitsBefore}
 
 -- ---- the tests of run?, in order
 
@@ -40,10 +40,6 @@ module _ (w : List ℕ) (a b p : ℕ) (after : a < b) (within : b ≤ length w) 
   pub run-lengthened : left? w a p ≡ false → false ≡ run? w a b
   unfolding run?
   run-lengthened h = rw (← is, h) (sym (and-false (repetition? anyPeriod 2 (part w a b))))
-    where
-      and-false : (x : Bool) → (x && false) ≡ false
-      and-false true = refl
-      and-false false = refl
 
   -- else the test to the right decides
   pub run-right : 2 * p ≤ b - a → left? w a p ≡ true → right? w b p ≡ run? w a b
@@ -104,14 +100,14 @@ pub rows-skip : (w : List ℕ) (a b : ℕ) → a < b → run? w a b ≡ false �
 unfolding runBetween
 rows-skip w a b h t =
     let e : b + 1 - a - 1 ≡ b - a = omega arith in
-    rw e (rows-step w a b h ∙ ap (λ (x : List Row). rowsAt w a (b - a - 1) ++ x) (rw t refl) ∙ append-nil (rowsAt w a (b - a - 1)))
+    rw e (rows-step w a b h ∙ ap (λ (x : List Record). rowsAt w a (b - a - 1) ++ x) (rw t refl) ∙ append-nil (rowsAt w a (b - a - 1)))
 
 pub rows-add : (w : List ℕ) (a b p : ℕ) → a < b → p ≡ smallestPeriod (part w a b) → run? w a b ≡ true
     → rowsAt w a (b + 1 - a - 1) ≡ rowsAt w a (b - a - 1) ++ (record { first = a + 1; last = b; period = p } ∷ [])
 unfolding runBetween
 rows-add w a b p h q t =
     let e : b + 1 - a - 1 ≡ b - a = omega arith in
-    rw e (rows-step w a b h ∙ ap (λ (x : List Row). rowsAt w a (b - a - 1) ++ x) (rw (t, q, add-one a) refl))
+    rw e (rows-step w a b h ∙ ap (λ (x : List Record). rowsAt w a (b - a - 1) ++ x) (rw (t, q, add-one a) refl))
 
 -- at most one run ends at each boundary
 pub rows-at-most : (w : List ℕ) (a d : ℕ) → length (rowsAt w a d) ≤ d
@@ -120,7 +116,7 @@ rows-at-most w a zero = omega arith
 rows-at-most w a (suc d) =
     omega (arith, rows-at-most w a d, length-append (rowsAt w a d) (runBetween w a (a + suc d)), one (run? w a (a + suc d)))
   where
-    one : (t : Bool) → length {A = Row} (cond t (record { first = suc a; last = a + suc d; period = smallestPeriod (part w a (a + suc d)) } ∷ []) []) ≤ 1
+    one : (t : Bool) → length {A = Record} (cond t (record { first = suc a; last = a + suc d; period = smallestPeriod (part w a (a + suc d)) } ∷ []) []) ≤ 1
     one true = omega arith
     one false = omega arith
 
@@ -136,23 +132,19 @@ runs-at-most w h = omega (arith, rows-before-at-most w (length w) h)
 
 -- ---- stores
 
-pub flat-append : (xs ys : List Row) → flat (xs ++ ys) ≡ flat xs ++ flat ys
+pub flat-append : (xs ys : List Record) → flat (xs ++ ys) ≡ flat xs ++ flat ys
 flat-append [] ys = refl
 flat-append (x ∷ xs) ys = ap (λ (l : List ℕ). x .first ∷ x .last ∷ x .period ∷ l) (flat-append xs ys)
 
-pub length-flat : (xs : List Row) → length (flat xs) ≡ stride * length xs
+pub length-flat : (xs : List Record) → length (flat xs) ≡ stride * length xs
 length-flat [] = refl
 length-flat (x ∷ xs) = omega (arith, length-flat xs)
 
 -- the records of more rows, stored behind those of the first
-pub put-rows : (t : List ℕ) (i : ℕ) (xs ys : List Row) → sets t (stride * i) (flat (xs ++ ys)) ≡ sets (sets t (stride * i) (flat xs)) (stride * (i + length xs)) (flat ys)
+pub put-rows : (t : List ℕ) (i : ℕ) (xs ys : List Record) → sets t (stride * i) (flat (xs ++ ys)) ≡ sets (sets t (stride * i) (flat xs)) (stride * (i + length xs)) (flat ys)
 put-rows t i xs ys =
     let e : stride * i + length (flat xs) ≡ stride * (i + length xs) = omega (arith, length-flat xs) in
     ap (sets t (stride * i)) (flat-append xs ys) ∙ sets-append t (stride * i) (flat xs) (flat ys) ∙ ap (λ (k : ℕ). sets (sets t (stride * i) (flat xs)) k (flat ys)) e
-
--- what is stored in no places
-pub stored-nowhere : (t e vs : List ℕ) (i : ℕ) → e ≡ sets [] i vs → e ++ t ≡ t
-stored-nowhere t e vs i h = ap (λ (x : List ℕ). x ++ t) (h ∙ sets-none i vs)
 
 -- ---- one more boundary done
 
@@ -181,34 +173,3 @@ pub table-more : (w t u v : List ℕ) (a count : ℕ) → count ≡ length (rows
 table-more w t u v a count h k e =
     e ∙ rw (k, h, before-more w a) (ap (λ (i : ℕ). sets (sets t 0 (flat (rowsBefore w a))) (stride * i) (flat (rowsAt w a (length w - a)))) (sym (zero-add (length (rowsBefore w a))))
     ∙ sym (put-rows t 0 (rowsBefore w a) (rowsAt w a (length w - a))))
-
-pub rows-left-none : (w t : List ℕ) → rowsLeft w 0 t ≡ t
-unfolding rowsLeft
-rows-left-none w t = refl
-
-pub rows-left-more : (w t : List ℕ) (a : ℕ) → rowsLeft w (a + 1) t ≡ sets (rowsLeft w a t) 0 (flat (rowsAt w a (length w - a)))
-unfolding rowsLeft
-rows-left-more w t a = rw (add-one a) refl
-
--- ---- the counts
-
-pub counts-none : (w t : List ℕ) → t ≡ countsOf w 0 ++ drop 0 t
-unfolding countsOf
-counts-none w t = refl
-
-pub length-counts : (w : List ℕ) (a : ℕ) → length (countsOf w a) ≡ a
-unfolding countsOf
-length-counts w zero = refl
-length-counts w (suc a) = omega (arith, length-append (countsOf w a) (length (rowsBefore w a) ∷ []), length-counts w a)
-
--- the table of counts is as long as it was
-pub counts-long : (w t : List ℕ) (a : ℕ) → a ≤ length t → length (countsOf w a ++ drop a t) ≡ length t
-counts-long w t a h = omega (arith, length-append (countsOf w a) (drop a t), length-counts w a, length-drop a t)
-
-pub counts-more : (w t : List ℕ) (a count : ℕ) → a < length t → count ≡ length (rowsBefore w a) → set (countsOf w a ++ drop a t) a count ≡ countsOf w (a + 1) ++ drop (a + 1) t
-unfolding countsOf
-counts-more w t a count h e =
-    ap (λ (l : List ℕ). set (countsOf w a ++ l) a count) (drop-cons t a 0 h)
-    ∙ set-at (countsOf w a) (getD t a 0) (drop (suc a) t) count a (length-counts w a)
-    ∙ sym (append-assoc (countsOf w a) (count ∷ []) (drop (suc a) t))
-    ∙ rw (add-one a, e) refl

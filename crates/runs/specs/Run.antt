@@ -1,12 +1,11 @@
--- Runs (maximal repetitions) of a word, and their white nodes. Definitions only.
+-- Runs (maximal repetitions) of a word, and the list of their records. Definitions only. A record is the struct of the code.
 use mathlib.Core.Path.{_≡_}
 use mathlib.Core.Logic.{_⊎_, _≢_}
-use mathlib.Core.Bool.{Bool}
 use mathlib.Core.List.{List, [], _∷_}
 use Prim.Native.Nat.{ℕ, zero, suc, _+_, _-_, _*_, _≤_, _<_}
-use lib.Dec.{T}
 use lib.ListN.{length, getD}
 use Rattle.periods.specs.Period.{part, SmallestPeriod}
+use Rattle.runs.specs.declared.Record.{Record}
 
 -- the symbol (pass) at a position from 1
 abbrev pub symbolAt : List ℕ → ℕ → ℕ
@@ -22,37 +21,23 @@ pub record Run (w : List ℕ) (first last p : ℕ) : Type 0 where
   pub left : (first ≡ 1) ⊎ (symbolAt w (first - 1) ≢ symbolAt w (first + p - 1))
   pub right : (last ≡ length w) ⊎ (symbolAt w (last + 1) ≢ symbolAt w (last - p + 1))
 
--- a run's record
-pub record Row : Type 0 where
-  pub first : ℕ
-  pub last : ℕ
-  pub period : ℕ
-
 -- entry number i of a list of records, from 1
-abbrev pub Entry : List Row → ℕ → Row → Type 0
+abbrev pub Entry : List Record → ℕ → Record → Type 0
 Entry rows zero r = ⊥
 Entry [] (suc i) r = ⊥
 Entry (x ∷ xs) (suc zero) r = x ≡ r
 Entry (x ∷ xs) (suc (suc i)) r = Entry xs (suc i) r
 
 -- "numbered from 1 by first, then by unit"
-abbrev pub Before : Row → Row → Type 0
+abbrev pub Before : Record → Record → Type 0
 Before r s = (r .first < s .first) ⊎ ((r .first ≡ s .first) × (r .period < s .period))
 
-abbrev pub Sorted : List Row → Type 0
+abbrev pub Sorted : List Record → Type 0
 Sorted [] = Unit {0}
-Sorted (x ∷ xs) = ((i : ℕ) (r : Row) → Entry xs i r → Before x r) × Sorted xs
+Sorted (x ∷ xs) = ((i : ℕ) (r : Record) → Entry xs i r → Before x r) × Sorted xs
 
 -- the records are exactly the runs of the word, in order
-pub record Lists (w : List ℕ) (rows : List Row) : Type 0 where
+pub record Lists (w : List ℕ) (rows : List Record) : Type 0 where
   pub sorted : Sorted rows
-  pub sound : (i : ℕ) (r : Row) → Entry rows i r → Run w (r .first) (r .last) (r .period)
+  pub sound : (i : ℕ) (r : Record) → Entry rows i r → Run w (r .first) (r .last) (r .period)
   pub complete : (first last p : ℕ) → Run w first last p → (i : ℕ) × Entry rows i (record { first = first; last = last; period = p })
-
--- "Run i has a white node at each position from first+2×unit−1 to last." The turn number is k for 2, and only allowed periods have nodes.
-pub record White (allowed : ℕ → Bool) (k : ℕ) (rows : List Row) (i x : ℕ) : Type 0 where
-  pub run : Row
-  pub numbered : Entry rows i run
-  pub from : run .first + k * run .period ≤ x + 1
-  pub to : x ≤ run .last
-  pub permitted : T (allowed (run .period))

@@ -1,11 +1,11 @@
--- The table of runs, and the nodes at a position, computed.
+-- The table of runs, computed, and the numbers of its records.
 use mathlib.Core.Bool.{Bool, true, not, cond, _&&_, _||_}
 use mathlib.Core.List.{List, [], _∷_, _++_}
 use Prim.Native.Nat.{ℕ, zero, suc, _+_, _-_, _*_}
-use lib.Dec.{leb, eqb}
+use lib.Dec.{eqb}
 use lib.ListN.{length, getD}
 use Rattle.periods.specs.Period.{part, smallestPeriod, repetition?, anyPeriod}
-use Rattle.runs.specs.Run.{Row}
+use Rattle.runs.specs.declared.Record.{Record}
 
 -- the part after boundary a with period p cannot be lengthened to the left
 abbrev pub left? : List ℕ → ℕ → ℕ → Bool
@@ -23,21 +23,21 @@ run? w a b =
     repetition? anyPeriod 2 (part w a b) && (left? w a p && right? w b p)
 
 -- its record, where it is one
-unfoldable pub runBetween : List ℕ → ℕ → ℕ → List Row
+unfoldable pub runBetween : List ℕ → ℕ → ℕ → List Record
 runBetween w a b = cond (run? w a b) (record { first = suc a; last = b; period = smallestPeriod (part w a b) } ∷ []) []
 
 -- the runs after boundary a, up to the next d boundaries
-unfoldable pub rowsAt : List ℕ → ℕ → ℕ → List Row
+unfoldable pub rowsAt : List ℕ → ℕ → ℕ → List Record
 rowsAt w a zero = []
 rowsAt w a (suc d) = rowsAt w a d ++ runBetween w a (a + suc d)
 
 -- the runs after the boundaries below a
-unfoldable pub rowsBefore : List ℕ → ℕ → List Row
+unfoldable pub rowsBefore : List ℕ → ℕ → List Record
 rowsBefore w zero = []
 rowsBefore w (suc a) = rowsBefore w a ++ rowsAt w a (length w - a)
 
 -- the table of runs
-unfoldable pub runsOf : List ℕ → List Row
+unfoldable pub runsOf : List ℕ → List Record
 runsOf w = rowsBefore w (length w)
 
 -- ---- the numbers of a record
@@ -46,23 +46,19 @@ runsOf w = rowsBefore w (length w)
 abbrev pub stride : ℕ
 stride = 3
 
-abbrev pub numbersOf : Row → List ℕ
+abbrev pub numbersOf : Record → List ℕ
 numbersOf r = r .first ∷ r .last ∷ r .period ∷ []
 
-abbrev pub flat : List Row → List ℕ
+-- the numbers of the records, one after the other
+abbrev pub flat : List Record → List ℕ
 flat [] = []
 flat (r ∷ rs) = numbersOf r ++ flat rs
 
--- ---- white nodes
+-- record number i of a table, from 0
+abbrev pub recordAt : List ℕ → ℕ → Record
+recordAt t i = record { first = getD t (stride * i) 0; last = getD t (stride * i + 1) 0; period = getD t (stride * i + 2) 0 }
 
-abbrev pub node? : (ℕ → Bool) → ℕ → ℕ → Row → Bool
-node? allowed k x r = leb (r .first + k * r .period) (x + 1) && (leb x (r .last) && allowed (r .period))
-
--- the numbers, from i + 1 on, of the records that pass a test
-abbrev pub numbersWhere : (Row → Bool) → ℕ → List Row → List ℕ
-numbersWhere t i [] = []
-numbersWhere t i (r ∷ rs) = cond (t r) (suc i ∷ []) [] ++ numbersWhere t (suc i) rs
-
--- the numbers of the runs with a white node at position x
-unfoldable pub nodesAt : (ℕ → Bool) → ℕ → List ℕ → ℕ → List ℕ
-nodesAt allowed k w x = numbersWhere (node? allowed k x) 0 (runsOf w)
+-- the first c records of a table
+unfoldable pub records : ℕ → List ℕ → List Record
+records zero t = []
+records (suc c) t = records c t ++ (recordAt t c ∷ [])

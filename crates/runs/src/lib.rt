@@ -1,19 +1,26 @@
-// Runs (maximal repetitions) and white nodes: the runs call and the nodes call.
+// Runs (maximal repetitions): their table, and the runs call.
 ghost use mathlib.Core.Path.{_≡_};
 ghost use lib.ListN.{length};
 ghost use Rattle.answers.specs.Outcome.{countedView};
-ghost use Rattle.runs.specs.Calls.{runsOutcome, runsTable, RunsMeaning, nodesOutcome, nodesTable, NodesMeaning};
+ghost use Rattle.runs.specs.Calls.{runsOutcome, runsTable, RunsMeaning};
 
 pub mod inner;
 
 use answers::Counted;
 use answers::Refusal;
 
-// How many numbers the record of a run has in a table: first, last, unit.
+// The record of a run: document 01's first, last and unit.
+pub struct Record {
+    pub first: u32,
+    pub last: u32,
+    pub period: u32,
+}
+
+// How many numbers the record of a run has in a table.
 pub const STRIDE: usize = 3;
 
 // The runs call: writes first, last and unit of each run, in the order of their numbers, and gives
-// their count. Refusals: 1, 7. Time: quadratic in the word's length at most; 16 KiB of stack.
+// their count. Refusals: 1, 7. Time: quadratic in the word's length at most; 17 KiB of stack.
 pub fn runs(w: &[u8], table: &mut [u32]) -> Counted
     ensures answer { λ r. ⌜ countedView r ≡ runsOutcome (now (w .entry)) (length (now (table .entry))) ⌝ }
     ensures written { λ r. ⌜ now (table .exit) ≡ runsTable (now (w .entry)) (now (table .entry)) ⌝ }
@@ -23,40 +30,12 @@ pub fn runs(w: &[u8], table: &mut [u32]) -> Counted
         return Counted::Refused(Refusal::TooLong);
     }
     let mut units = [0u32; answers::LIMIT];
+    // an empty part of the table: its bounds are locals, as the borrow checker wants those of a part
     let zero: usize = 0;
     let count = inner::enumerate(w, &mut units, &mut table[zero..zero]);
     if table.len() < STRIDE * count {
         return Counted::Refused(Refusal::TooFewPlaces);
     }
     inner::enumerate(w, &mut units, table);
-    Counted::Count(count as u32)
-}
-
-// The nodes call: writes the numbers of the runs with a white node at a position from 1, rising,
-// and gives their count. Refusals: 1, 6, 7. Time: quadratic in the word's length at most; 64 KiB of
-// stack.
-pub fn nodes(w: &[u8], position: u32, table: &mut [u32]) -> Counted
-    ensures answer { λ r. ⌜ countedView r ≡ nodesOutcome (now (w .entry)) position (length (now (table .entry))) ⌝ }
-    ensures written { λ r. ⌜ now (table .exit) ≡ nodesTable (now (w .entry)) position (now (table .entry)) ⌝ }
-    ensures meaning { λ r. ⌜ NodesMeaning (now (w .entry)) position (now (table .entry)) (countedView r) (now (table .exit)) ⌝ }
-{
-    if answers::LIMIT < w.len() {
-        return Counted::Refused(Refusal::TooLong);
-    }
-    if position < 1 {
-        return Counted::Refused(Refusal::BadPosition);
-    }
-    let x = position as usize;
-    if w.len() < x {
-        return Counted::Refused(Refusal::BadPosition);
-    }
-    let mut units = [0u32; answers::LIMIT];
-    let mut rows = [0u32; STRIDE * answers::LIMIT];
-    let zero: usize = 0;
-    let count = inner::nodes_at(w, x, &mut units, &mut rows, &mut table[zero..zero]);
-    if table.len() < count {
-        return Counted::Refused(Refusal::TooFewPlaces);
-    }
-    inner::nodes_at(w, x, &mut units, &mut rows, table);
     Counted::Count(count as u32)
 }

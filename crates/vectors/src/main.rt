@@ -83,7 +83,7 @@ fn nodes_of(w: &[u8], position: u32, places: usize) {
 }
 
 fn nodes_in(w: &[u8], position: u32, table: &mut [u32]) {
-    let answer = runs::nodes(w, position, table);
+    let answer = nodes::nodes(w, position, table);
     outcome(answer);
     list(table);
 }
@@ -200,7 +200,7 @@ fn path_of(w: &[u8], ends: &[u32], places: usize) {
 }
 
 fn path_in(w: &[u8], ends: &[u32], table: &mut [u32]) {
-    let answer = repetitions::path_of_split(w, ends, table);
+    let answer = paths::path_of_split(w, ends, table);
     text(b"path,");
     text(w);
     outcome(answer);
@@ -230,7 +230,7 @@ fn judged_paths() {
 }
 
 fn path_judged(w: &[u8], numbers: &[u32]) {
-    let answer = repetitions::judge_path(w, numbers);
+    let answer = paths::judge_path(w, numbers);
     text(b"judge path,");
     text(w);
     outcome(answer);
@@ -294,7 +294,7 @@ fn too_long() {
     text(b"\n4097 equal, path");
     long_path(&w, &mut f);
     text(b"4097 equal, judge path");
-    let g = repetitions::judge_path(&w, &[0]);
+    let g = paths::judge_path(&w, &[0]);
     outcome(g);
     text(b"\n");
 }
@@ -307,7 +307,7 @@ fn long_best(w: &[u8], ends: &mut [u32], work: &mut [u32]) {
 }
 
 fn long_path(w: &[u8], table: &mut [u32]) {
-    let answer = repetitions::path_of_split(w, &[0], table);
+    let answer = paths::path_of_split(w, &[0], table);
     outcome(answer);
     list(table);
 }

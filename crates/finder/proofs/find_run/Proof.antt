@@ -25,7 +25,6 @@ use prog.Wp.{Heap, Out, Env, Calls, Loops, Wp, WpFn, Tables, afterSeq, afterBloc
 use ghost.Atoms.{Atoms, sem}
 use contract.Monad.{Fun, fact}
 use contract.Running.{givenOf, tables, tablesOf}
-use types.Kit as Kit
 use types.Kit.{Given, Item, Sq, runs, anyQ, atRet, ‵, raw, _⊛_, some, later, _$_, _∵_, !, qed, by, move, keep, drop as letgo, use0, use1, split, join, pick, rewrite, fsplit, fjoin, suffices, frame, await, done}
 use types.Part.{whole, sub, look-in}
 use types.Run.{look, look-raw, store, init, forget, stop, hop, fld, from, load, lit, of-opd, bin, and-then, no-more, assigns, assigns-last, land, first, skips, jumps, blocks, branches, exec, Below, again, loops, returns, enter, alloc1, alloc0, params1, pass1, pass0, free1, free0}
@@ -40,7 +39,6 @@ use denote.Slice.{sliceTy, sliceVal, ShrSlice, Room, slice-vals, shr-slice-tells
 use denote.Index.{place-is, row, elem-out, elem-back, looks-slice, shuts-slice}
 use denote.Signature.{plain, shrSlice}
 use denote.Steps.{only, owned, facts, heard, nothing}
-use denote.Struct.Laws as LL
 use denote.Triple.Statement.{Contract, Triple}
 use denote.Triple.Call.{calls-at}
 use denote.Triple.Entry.{Vals, onEntry}
@@ -50,36 +48,38 @@ use denote.Triple.Walked.{says, Stays, stay-dropped, walkOf, goes-dropped, Walks
 use denote.Exit.{yes}
 use denote.Triple.Clauses.{ensured, lasts}
 use Rattle.finder.specs.Find.{enclosing?, step, findRun}
-use Rattle.finder.specs.declared.Run.{Run}
-use Rattle.finder.proofs.Run as T
-use Rattle.finder.proofs.Run.Laws as T′
+use Rattle.runs.specs.declared.Record.{Record}
+use Rattle.finder.proofs.encloses.Symbol.{name as #finder·encloses}
+use Rattle.finder.proofs.find_run.Key.{name as #finder·find-run}
+use types.Kit as Kit
+use denote.Struct.Laws as LL
+use Rattle.runs.proofs.Record as T
+use Rattle.runs.proofs.Record.Laws as T′
 use Rattle.finder.proofs.encloses as encl
 use Rattle.finder.proofs.encloses.Symbol as encl-def
-use Rattle.finder.proofs.encloses.Symbol.{name as #finder·encloses}
 use Rattle.finder.proofs.encloses.Met as encl-thm
-use Rattle.finder.proofs.find_run.Key.{name as #finder·find-run}
 use Rattle.finder.proofs.find_run as find
 use Rattle.finder.proofs.find_run.Statement as stated
 use Rattle.finder.proofs.find_run.Code as code
 use Rattle.finder.proofs.find_run.Code.Mir as pieces
 
 -- ---- the list: what is found in xs, where the first i records are passed over
-module _ (f l u : ℕ) (xs : List Run) where
-  abbrev hits : Run → Bool
+module _ (f l u : ℕ) (xs : List Record) where
+  abbrev hits : Record → Bool
   hits r = enclosing? (r .first) (r .last) (r .period) f l u
 
   abbrev Reach : ℕ → Type 0
   Reach i = findRun xs f l u ≡ i + findRun (drop i xs) f l u
 
   reach-end : (i : ℕ) → length xs ≤ i → Reach i → findRun xs f l u ≡ i
-  reach-end i le e = e ∙ ap (λ (ys : List Run). i + findRun ys f l u) (drop-of-length-le xs le) ∙ add-zero i
+  reach-end i le e = e ∙ ap (λ (ys : List Record). i + findRun ys f l u) (drop-of-length-le xs le) ∙ add-zero i
 
-  reach-here : (i : ℕ) (d : Run) → i < length xs → hits (getD xs i d) ≡ true → Reach i → findRun xs f l u ≡ i
-  reach-here i d lt h e = e ∙ ap (λ (ys : List Run). i + findRun ys f l u) (drop-cons xs i d lt) ∙ ap (λ (t : Bool). i + step t (findRun (drop (suc i) xs) f l u)) h ∙ add-zero i
+  reach-here : (i : ℕ) (d : Record) → i < length xs → hits (getD xs i d) ≡ true → Reach i → findRun xs f l u ≡ i
+  reach-here i d lt h e = e ∙ ap (λ (ys : List Record). i + findRun ys f l u) (drop-cons xs i d lt) ∙ ap (λ (t : Bool). i + step t (findRun (drop (suc i) xs) f l u)) h ∙ add-zero i
 
-  reach-next : (i : ℕ) (d : Run) → i < length xs → hits (getD xs i d) ≡ false → Reach i → Reach (i + 1)
+  reach-next : (i : ℕ) (d : Record) → i < length xs → hits (getD xs i d) ≡ false → Reach i → Reach (i + 1)
   reach-next i d lt h e = subst Reach (sym (add-one i))
-      (e ∙ ap (λ (ys : List Run). i + findRun ys f l u) (drop-cons xs i d lt) ∙ ap (λ (t : Bool). i + step t (findRun (drop (suc i) xs) f l u)) h
+      (e ∙ ap (λ (ys : List Record). i + findRun ys f l u) (drop-cons xs i d lt) ∙ ap (λ (t : Bool). i + step t (findRun (drop (suc i) xs) f l u)) h
       ∙ add-suc i (findRun (drop (suc i) xs) f l u) ∙ sym (suc-add i (findRun (drop (suc i) xs) f l u)))
 
 holds : (t : Bool) → Holds t → t ≡ true
@@ -126,11 +126,11 @@ word = tyInt w64
 abbrev slice : Ty
 slice = sliceTy (tyRef (named 0) imm (pointee (T.the-row .written)))
 
-abbrev vals : Run → List Val
+abbrev vals : Record → List Val
 vals = LL.vals T.the-type T′.the-laws
 
 -- what lies past the end
-abbrev none : Run
+abbrev none : Record
 none = record { first = 0; last = 0; period = 0 }
 
 abbrev stayed : Stays (find.ended .signature .params) (find.ended .kept)
@@ -141,7 +141,7 @@ module _ {M : Type 1} (𝓤 : URA M) (H : Heap 𝓤) (A : Atoms 𝓤) (W : Given
   abbrev Encl : Contract 𝓤
   Encl = tripleOf 𝓤 H A encl.signature (encl.spec 𝓤 H A mem run)
 
-  module _ (r : Run) (f l u : ℕ) where
+  module _ (r : Record) (f l u : ℕ) where
     abbrev passed : Vals encl.signature tt
     passed = (vint w32 (r .first) ∷ [], (vint w32 (r .last) ∷ [], (vint w32 (r .period) ∷ [], (vint w32 f ∷ [], (vint w32 l ∷ [], (vint w32 u ∷ [], tt))))))
 
@@ -161,7 +161,7 @@ module _ {M : Type 1} (𝓤 : URA M) (H : Heap 𝓤) (A : Atoms 𝓤) (W : Given
     said : (t : Bool) → ent 𝓤 (ensured 𝓤 H A encl.ended (encl.clauses 𝓤 H A mem run) tt (r .first, (r .last, (r .period, (f, (l, (u, tt)))))) tt t) (fact 𝓤 (t ≡ hits f l u [] r))
     said t = exE 𝓤 _ (λ ws. snd∗ 𝓤 (sem 𝓤 H A (lasts encl.ended tt (r .first, (r .last, (r .period, (f, (l, (u, tt)))))) ws)) (fact 𝓤 (t ≡ hits f l u [] r)))
 
-  module _ (κ : Lft) (q : Share) (b o : ℕ) (γ : GName) (xs : List Run) (f l u : ℕ) (gn : Room T.the-row (length xs)) (gf : f < 2 ^ 32) (gl : l < 2 ^ 32) (gu : u < 2 ^ 32) where
+  module _ (κ : Lft) (q : Share) (b o : ℕ) (γ : GName) (xs : List Record) (f l u : ℕ) (gn : Room T.the-row (length xs)) (gf : f < 2 ^ 32) (gl : l < 2 ^ 32) (gu : u < 2 ^ 32) where
     abbrev n : ℕ
     n = length xs
 
@@ -257,7 +257,7 @@ module _ {M : Type 1} (𝓤 : URA M) (H : Heap 𝓤) (A : Atoms 𝓤) (W : Given
           assigns-last ! (bin ! (load ! (from ! (stop !)) (look ! 13 refl)) (lit ! tt) (record { fits = fits (next (sym e ∙ fails t miss)) })) (from ! (stop !)) (store ! 13 refl (tt, record { fits = fits (next (sym e ∙ fails t miss)) })) $
           forget ! 1 refl $ forget ! 11 refl $ again ! Nearer At i (next (sym e ∙ fails t miss)) (add-one-dec n (i .0) lt)))))))
         where
-          r : Run
+          r : Record
           r = getD xs (i .0) none
 
           wt : Is T.the-row r (vals r) → Holds (hasTy T′.mir (T′.lowered r)) × WT (T′.lowered r)

@@ -8,10 +8,10 @@ use borrow.Author.Needs.{needs}
 use lib.Dec.{T}
 use lib.ListN.{drop}
 use Rattle.answers.specs.Outcome.{accepted, countedView}
-use Rattle.plans.specs.Line.{line?, numberAt, placeOfLength, placeOfCount, ends?, endsIn}
+use Rattle.plan_lines.specs.Line.{line?, numberAt, placeOfLength, placeOfCount, ends?, endsIn}
 use Rattle.plans.specs.Calls.{plausible}
-use Rattle.plans.proofs.Loops.{said-yes, said-no, field-digits, ends-length}
-use Rattle.plans.proofs.LineClaims.{Parts, line-parts}
+use Rattle.plan_lines.proofs.Loops.{said-yes, said-no, field-digits, ends-length}
+use Rattle.plan_lines.proofs.LineClaims.{Parts, line-parts}
 use Rattle.plans.proofs.CallClaims.{judge-counts, judge-refuses, read-no-line, read-refused, read-too-few, read-plan, read-answered}
 use Rattle.plans.proofs.read_plan.Statement.{statement}
 use Rattle.plans.proofs.read_plan.Tie as tie

@@ -6,11 +6,11 @@ use Prim.Native.Nat.{ℕ, _≤_}
 use native.Mathlib.Omega.{arith}
 use borrow.Author.Needs.{needs}
 use lib.ListN.{length}
-use Rattle.answers.proofs.Stores.{sets-front}
+use Rattle.laws.proofs.Stores.{sets-front}
 use Rattle.answers.specs.Outcome.{accepted, limit}
-use Rattle.plans.specs.Line.{line, bytesFor}
+use Rattle.plan_lines.specs.Line.{line, bytesFor}
 use Rattle.plans.specs.Calls.{plausible}
-use Rattle.plans.proofs.LineClaims.{length-line}
+use Rattle.plan_lines.proofs.LineClaims.{length-line}
 use Rattle.plans.proofs.CallClaims.{plausible-low, plausible-length, judge-counts, judge-refuses, write-refused, write-too-few, write-written, write-answered}
 use Rattle.plans.proofs.write_plan.Statement.{statement}
 use Rattle.plans.proofs.write_plan.Tie as tie

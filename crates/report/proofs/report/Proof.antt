@@ -6,8 +6,7 @@ use Prim.Native.Nat.{ℕ, _*_, _≤_}
 use native.Mathlib.Omega.{arith}
 use borrow.Author.Needs.{needs}
 use lib.ListN.{length, replicate, length-replicate}
-use Rattle.runs.specs.Table.{stride, runsOf}
-use Rattle.runs.specs.Inner.{records}
+use Rattle.runs.specs.Table.{stride, runsOf, records}
 use Rattle.runs.proofs.Records.{length-records}
 use Rattle.finder.specs.Find.{recordLimit}
 use Rattle.report.proofs.Reports.{runs-refused, runs-counted, promised-long, promised-many, promised-printed, report-answered}

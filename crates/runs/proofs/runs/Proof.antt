@@ -8,7 +8,8 @@ use borrow.Author.Needs.{needs}
 use lib.ListN.{length}
 use Rattle.answers.specs.Outcome.{limit}
 use Rattle.runs.specs.Table.{runsOf, flat}
-use Rattle.runs.proofs.Rows.{runs-at-most, stored-nowhere}
+use Rattle.runs.proofs.Rows.{runs-at-most}
+use Rattle.laws.proofs.Stores.{stored-nowhere}
 use Rattle.runs.proofs.CallClaims.{runs-too-long, runs-too-few, runs-written, runs-answered}
 use Rattle.runs.proofs.runs.Statement.{statement}
 use Rattle.runs.proofs.runs.Tie as tie

@@ -7,11 +7,11 @@ use lib.ListN.{length-set}
 use Rattle.factors.proofs.TableLaws.{Link, linked-zero, linked-step, ends-back-zero, ends-back-more}
 use borrow.Fn.Kinds.{In}
 use borrow.Fn.PlainCycle.{Measures, is, falls, and}
+use Rattle.factors.proofs.inner.+write_ends.{statement}
+use Rattle.factors.proofs.inner.+write_ends.Tie.{close}
 use Rattle.factors.proofs.inner.write_ends.Reads as write-ends
 use Rattle.factors.proofs.inner.write_ends.Kinds as write-ends-kinds
 use Rattle.factors.proofs.inner.+write_ends.Lts-write_ends as write-ends-lts
-use Rattle.factors.proofs.inner.+write_ends.{statement}
-use Rattle.factors.proofs.inner.+write_ends.Tie.{close}
 
 abbrev μ-write-ends : Measures 2 write-ends-kinds.ps ℕ
 μ-write-ends κs a = a .1 .0

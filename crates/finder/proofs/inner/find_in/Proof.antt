@@ -1,5 +1,5 @@
 -- `finder::inner::find_in` meets its contract: a walk of its MIR, by hand. The array is copied into a local, which is lent whole by `&` for a lifetime that the
--- walk makes; of that `&[Run]` the first count records are passed on to `find_run`. Once the call has returned, the lifetime is ended, and the local is the
+-- walk makes; of that `&[Record]` the first count records are passed on to `find_run`. Once the call has returned, the lifetime is ended, and the local is the
 -- function's own again. All that the proof knows of `find_run` is that it meets its contract. Assumes nothing.
 use mathlib.Core.Path.{_≡_, refl, sym, ap, subst}
 use Prim.Native.Nat.{ℕ, _≤_, _<_, _^_}
@@ -19,7 +19,6 @@ use prog.Wp.{Heap, Calls, Loops, WpFn, Tables}
 use ghost.Atoms.{Atoms, sem}
 use contract.Monad.{Fun, fact}
 use contract.Running.{givenOf, tables, tablesOf}
-use types.Kit as Kit
 use types.Kit.{Given, Item, ‵, raw, _⊛_, some, later, _$_, _∵_, !, qed, by, move, keep, drop as letgo, use1, use2, split, split3, join, pick, rewrite, fsplit, fjoin, fpick, fpack, feqI, suffices, frame, show, await, updating, now as at-once, done}
 use types.Tokens.{lft-new, lft-end, lent-back}
 use types.Part.{agg}
@@ -39,7 +38,6 @@ use denote.Lend.{lends-shr-slice}
 use denote.Signature.{plain}
 use denote.Signature.Array.{arrayOf}
 use denote.Steps.{only, owned, peeks, facts, heard, nothing}
-use denote.Struct.Laws as LL
 use denote.Triple.Statement.{Contract, Triple}
 use denote.Triple.Call.{calls-at}
 use denote.Triple.Entry.{Vals, onEntry}
@@ -52,14 +50,16 @@ use borrow.Table.Owned.{ShrSlice as Lent-slice}
 use borrow.Table.Copies.{cStruct, halved}
 use borrow.Rule.Slice.Prefix.{shs-prefix-same}
 use Rattle.finder.specs.Find.{recordLimit, findRun, findIn}
-use Rattle.finder.specs.declared.Run.{Run}
-use Rattle.finder.proofs.Run as T
-use Rattle.finder.proofs.Run.Laws as T′
+use Rattle.runs.specs.declared.Record.{Record}
+use Rattle.finder.proofs.find_run.Symbol.{name as #finder·find-run}
+use Rattle.finder.proofs.inner.find_in.Key.{name as #finder·find-in}
+use types.Kit as Kit
+use denote.Struct.Laws as LL
+use Rattle.runs.proofs.Record as T
+use Rattle.runs.proofs.Record.Laws as T′
 use Rattle.finder.proofs.find_run as find
 use Rattle.finder.proofs.find_run.Symbol as find-def
-use Rattle.finder.proofs.find_run.Symbol.{name as #finder·find-run}
 use Rattle.finder.proofs.find_run.Met as find-thm
-use Rattle.finder.proofs.inner.find_in.Key.{name as #finder·find-in}
 use Rattle.finder.proofs.inner.find_in as find-in
 use Rattle.finder.proofs.inner.find_in.Statement as stated
 use Rattle.finder.proofs.inner.find_in.Code as code
@@ -68,10 +68,10 @@ use Rattle.finder.proofs.inner.find_in.Code as code
 abbrev N : ℕ
 N = recordLimit
 
-abbrev Row : RattleType
-Row = Array T.the-row N
+abbrev Records : RattleType
+Records = Array T.the-row N
 
-abbrev vals : Run → List Val
+abbrev vals : Record → List Val
 vals = LL.vals T.the-type T′.the-laws
 
 abbrev stayed : Stays (find-in.ended .signature .params) (find-in.ended .kept)
@@ -82,8 +82,8 @@ module _ {M : Type 1} (𝓤 : URA M) (H : Heap 𝓤) (A : Atoms 𝓤) (mem : Mem
   abbrev Find : Contract 𝓤
   Find = tripleOf 𝓤 H A find.signature (find.spec 𝓤 H A mem run)
 
-module _ {M : Type 1} (𝓤 : URA M) (H : Heap 𝓤) (A : Atoms 𝓤) (W : Given 𝓤 H A) (mem : Memory → SProp 𝓤) (run : Routine → Fun 𝓤) (xs : List Run) (c f l u : ℕ)
-    (is : Is Row xs (array-vals vals xs)) (le : c ≤ N) (gc : c < 2 ^ 64) (gf : f < 2 ^ 32) (gl : l < 2 ^ 32) (gu : u < 2 ^ 32) where
+module _ {M : Type 1} (𝓤 : URA M) (H : Heap 𝓤) (A : Atoms 𝓤) (W : Given 𝓤 H A) (mem : Memory → SProp 𝓤) (run : Routine → Fun 𝓤) (xs : List Record) (c f l u : ℕ)
+    (is : Is Records xs (array-vals vals xs)) (le : c ≤ N) (gc : c < 2 ^ 64) (gf : f < 2 ^ 32) (gl : l < 2 ^ 32) (gu : u < 2 ^ 32) where
   len : length xs ≡ N
   len = is .1 .0 .1
 
@@ -111,20 +111,20 @@ module _ {M : Type 1} (𝓤 : URA M) (H : Heap 𝓤) (A : Atoms 𝓤) (W : Given
   unfolding partOf
   apart b = subst (λ (m : ℕ). ent 𝓤 (H .at fullShare (tyArray T′.mir N) b 0 v) (sem 𝓤 H A (arr-parts (shares T.the-row) m .part fullShare xs b 0))) (sym len)
       (qed W (‵ (fat fullShare (tyArray T′.mir N) b 0 v) ∷ []) ∵
-      use1 W (‵ (cellAt fullShare (Row .mir) (v ∷ []) b 0)) (W .laws .at-raw fullShare (tyArray T′.mir N) b 0 v) $
-      owned ! Row (Is Row) (array-makes 𝓤 H A W T.the-row (LL.makes T.the-type T′.the-plain 𝓤 H A) N) xs (v ∷ []) is $ move ! (1 ∷ 0 ∷ []) $ fjoin ! $
-      fpack ! (List Val) (λ ws. fsep (cellAt fullShare (Row .mir) ws b 0) (Row .own xs ws)) (v ∷ []) $ by ! (array-apart 𝓤 H A W T.the-row fullShare tt N xs b 0))
+      use1 W (‵ (cellAt fullShare (Records .mir) (v ∷ []) b 0)) (W .laws .at-raw fullShare (tyArray T′.mir N) b 0 v) $
+      owned ! Records (Is Records) (array-makes 𝓤 H A W T.the-row (LL.makes T.the-type T′.the-plain 𝓤 H A) N) xs (v ∷ []) is $ move ! (1 ∷ 0 ∷ []) $ fjoin ! $
+      fpack ! (List Val) (λ ws. fsep (cellAt fullShare (Records .mir) ws b 0) (Records .own xs ws)) (v ∷ []) $ by ! (array-apart 𝓤 H A W T.the-row fullShare tt N xs b 0))
 
   whole : (b : ℕ) → ent 𝓤 (sem 𝓤 H A (Lies b)) (H .at fullShare (tyArray T′.mir N) b 0 v)
   unfolding partOf
   whole b = subst (λ (m : ℕ). ent 𝓤 (sem 𝓤 H A (arr-parts (shares T.the-row) m .part fullShare xs b 0)) (H .at fullShare (tyArray T′.mir N) b 0 v)) (sym len)
       (qed W (‵ (arr-parts (shares T.the-row) N .part fullShare xs b 0) ∷ []) ∵
-      use1 W (‵ (partAt Row fullShare xs b 0)) (array-whole 𝓤 H A W T.the-row fullShare N xs b 0) $ fpick ! (λ ws. fsplit ! $ move ! (1 ∷ []) $
-      facts ! Row (Is Row) (shows 𝓤 H A Row) xs ws (λ p. rewrite ! 0 (λ (zs : List Val). ‵ (cellAt fullShare (Row .mir) zs b 0)) (array-tells T.the-row vals (LL.tells T.the-type T′.the-laws) N xs ws p) refl $
+      use1 W (‵ (partAt Records fullShare xs b 0)) (array-whole 𝓤 H A W T.the-row fullShare N xs b 0) $ fpick ! (λ ws. fsplit ! $ move ! (1 ∷ []) $
+      facts ! Records (Is Records) (shows 𝓤 H A Records) xs ws (λ p. rewrite ! 0 (λ (zs : List Val). ‵ (cellAt fullShare (Records .mir) zs b 0)) (array-tells T.the-row vals (LL.tells T.the-type T′.the-laws) N xs ws p) refl $
       by ! (W .laws .raw-at fullShare (tyArray T′.mir N) b 0 v))))
 
-  -- what is passed to `find_run`: a `&[Run]` of the first c records, under the name γ
-  abbrev front : ℕ → GName → RefT (List Run)
+  -- what is passed to `find_run`: a `&[Record]` of the first c records, under the name γ
+  abbrev front : ℕ → GName → RefT (List Record)
   front b γ = record { ptr = (b, 0); name = γ; now = take c xs }
 
   abbrev Front : ℕ → Lft → GName → Fml
@@ -136,7 +136,7 @@ module _ {M : Type 1} (𝓤 : URA M) (H : Heap 𝓤) (A : Atoms 𝓤) (W : Given
   count : length (take c xs) ≡ c
   count = length-take-le c xs (subst (λ (m : ℕ). c ≤ m) (sym len) le)
 
-  -- the records are lent whole for κ, and of that `&[Run]` the first c are taken
+  -- the records are lent whole for κ, and of that `&[Record]` the first c are taken
   lends : (b : ℕ) (κ : Lft) (q : Share) → ent 𝓤 (sep 𝓤 (sem 𝓤 H A (Lies b)) (A .lft κ q)) (H .⇛ (ex 𝓤 (λ (γ : GName). sep 𝓤 (sem 𝓤 H A (Front b κ γ)) (sep 𝓤 (A .lft κ q) (A .lent κ (Lies b))))))
   lends b κ q =
       qed W (‵ (Lies b) ∷ ‵ (flft κ q) ∷ []) ∵ updating ! $
@@ -171,7 +171,7 @@ module _ {M : Type 1} (𝓤 : URA M) (H : Heap 𝓤) (A : Atoms 𝓤) (W : Given
         → ent 𝓤 (onEntry 𝓤 H A find-in.signature tt tt (xs, (c, (f, (l, (u, tt))))) (v ∷ [], (vint w64 c ∷ [], (vint w32 f ∷ [], (vint w32 l ∷ [], (vint w32 u ∷ [], tt))))))
         (WpFn 𝓤 H C Λ code.function (v ∷ vint w64 c ∷ vint w32 f ∷ vint w32 l ∷ vint w32 u ∷ []) Post)
     walk wt =
-        qed W (‵ ftrue ∷ ‵ (owns (Row ∷ usize ∷ u32 ∷ u32 ∷ u32 ∷ []) (xs, (c, (f, (l, (u, tt))))) (v ∷ [], (vint w64 c ∷ [], (vint w32 f ∷ [], (vint w32 l ∷ [], (vint w32 u ∷ [], tt)))))) ∷ []) ∵
+        qed W (‵ ftrue ∷ ‵ (owns (Records ∷ usize ∷ u32 ∷ u32 ∷ u32 ∷ []) (xs, (c, (f, (l, (u, tt))))) (v ∷ [], (vint w64 c ∷ [], (vint w32 f ∷ [], (vint w32 l ∷ [], (vint w32 u ∷ [], tt)))))) ∷ []) ∵
         keep ! [] $ enter ! C Λ code.function (v ∷ vint w64 c ∷ vint w32 f ∷ vint w32 l ∷ vint w32 u ∷ []) _ $
         alloc1 ! (λ l₀. alloc1 ! (λ l₁. alloc1 ! (λ l₂. alloc1 ! (λ l₃. alloc1 ! (λ l₄. alloc1 ! (λ l₅. alloc1 ! (λ l₆. alloc1 ! (λ l₇. alloc1 ! (λ l₈. alloc0 ! $ params1 ! $
         pass1 ! (init ! 14 refl wt) $ pass1 ! (init ! 12 refl (tt, record { fits = gc })) $ pass1 ! (init ! 10 refl (tt, record { fits = gf })) $ pass1 ! (init ! 8 refl (tt, record { fits = gl })) $ pass1 ! (init ! 6 refl (tt, record { fits = gu })) $ pass0 ! $

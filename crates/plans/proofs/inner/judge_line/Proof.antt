@@ -1,20 +1,44 @@
--- `plans::inner::judge_line` meets its contract: the ends that are left are judged after those that are fine. Assumes nothing.
-use mathlib.Core.Path.{_≡_, sym, ap, _∙_}
-use Prim.Native.Nat.{ℕ, _+_, _-_, _≤_}
+-- `plans::inner::judge_line` meets its contract: its loop keeps that the verdict on the ends that are left is the answer. Assumes nothing.
+use mathlib.Core.Path.{_≡_, refl, sym, _∙_}
+use mathlib.Core.Bool.{false}
+use mathlib.Core.List.{List}
+use Prim.Native.Nat.{ℕ, _-_, _≤_, _<_}
 use native.Mathlib.Omega.{arith}
-use lib.ListN.{getD}
-use Rattle.plans.specs.Calls.{plausible}
-use Rattle.plans.proofs.Loops.{judgedFrom, judge-too-long, judge-first, judge-low, judge-high, judge-more, judge-unfinished, judge-done}
-use Rattle.plans.specs.Line.{placeOfEnd, endsIn}
-use Rattle.plans.proofs.Loops.{field-digits, ends-length, end-at, end-stands}
+use borrow.Author.Needs.{needs}
+use lib.ListN.{length, getD}
+use Rattle.factors.specs.Verdict.{badEnd?}
+use Rattle.factors.proofs.Judging.{end-fits, judgedFrom, judged-bad-end, judged-block, judged-unfinished, judged-finished}
+use Rattle.plan_lines.specs.Line.{placeOfEnd, endsIn}
+use Rattle.plan_lines.proofs.Loops.{field-digits, ends-length, end-at, end-stands}
+use Rattle.plans.specs.Calls.{anyPiece, plausible}
+use Rattle.plans.proofs.Judged.{judge-too-long, judge-first}
 use Rattle.plans.proofs.inner.judge_line.Statement.{statement}
 use Rattle.plans.proofs.inner.judge_line.Tie as tie
 
 abbrev Inv-loop : tie.InvT-loop
-Inv-loop s n count before₀ k₀ before k = (k ≤ count) × (k ≤ before) × (before ≤ n) × (plausible n (endsIn s count) ≡ judgedFrom n (endsIn s count) k before)
+Inv-loop s n count len before₀ k₀ before k = (k ≤ count) × (k ≤ before) × (before ≤ n) × (judgedFrom anyPiece n (endsIn s count) k before ≡ plausible n (endsIn s count))
 
 abbrev μ-loop : tie.MeasureT-loop
-μ-loop s n count before₀ k₀ before k = count - k
+μ-loop s n count len before₀ k₀ before k = count - k
+
+-- in a turn of the loop: the arguments, and the ends that stand in the line
+abbrev Turn : Type 0
+Turn = tie.At-loop Inv-loop μ-loop
+
+abbrev number-of : Turn → ℕ
+number-of c = c .before .before .before .args .n
+
+abbrev stated : Turn → ℕ
+stated c = c .before .before .before .args .count
+
+abbrev bytes : Turn → List ℕ
+bytes c = c .before .before .before .args .s .now
+
+abbrev ends : Turn → List ℕ
+ends c = endsIn (bytes c) (stated c)
+
+inside : (c : Turn) → c .loop .k < stated c → c .loop .k < length (ends c)
+inside c h = omega (arith, ends-length (bytes c) (stated c))
 
 returns : tie.Need-returns Inv-loop μ-loop
 returns c = let g = c .before .before .args in sym (judge-too-long (g .n) (endsIn (g .s .now) (g .count)) (c .if1 .taken))
@@ -28,41 +52,33 @@ mul-number c = omega arith
 add-number : tie.Need-add-number Inv-loop μ-loop
 add-number c = omega arith
 
--- the number that was read is the end
-read-end : (c : tie.After-number Inv-loop μ-loop) → getD (endsIn (c .before .before .before .before .before .args .s .now) (c .before .before .before .before .before .args .count)) (c .before .before .loop .k) 0 ≡ c .number .result
-read-end c =
-    let g = c .before .before .before .before .before .args in
-    end-at (g .s .now) (g .count) (c .before .before .loop .k) (omega arith) ∙ sym (c .number .ensures)
-
 number-requires : tie.Need-number-requires Inv-loop μ-loop
 number-requires c κs =
-    let a = c .before .before .before .before in
-    let k : ℕ = c .before .loop .k in
-    (omega arith, field-digits (a .args .s .now) (placeOfEnd k) (end-stands (a .args .s .now) (a .args .count) k (a .pre .1) (omega arith)))
+    let t = c .before in
+    let a = t .before .before .before in
+    (omega arith, field-digits (bytes t) (placeOfEnd (t .loop .k)) (end-stands (bytes t) (stated t) (t .loop .k) (a .pre .1) (omega arith)))
 
-cast-t13 : tie.Need-cast-t13 Inv-loop μ-loop
-cast-t13 c = omega arith
+-- the number that was read is the end
+read-end : (c : tie.After-number Inv-loop μ-loop) → c .before .before .loop .k < stated (c .before .before) → c .number .result ≡ getD (ends (c .before .before)) (c .before .before .loop .k) 0
+read-end c h = let t = c .before .before in c .number .ensures ∙ sym (end-at (bytes t) (stated t) (t .loop .k) h)
 
-add-t14 : tie.Need-add-t14 Inv-loop μ-loop
-add-t14 c = omega arith
+cast-end : tie.Need-cast-end Inv-loop μ-loop
+cast-end c = search needs
 
-returns-2 : tie.Need-returns-2 Inv-loop μ-loop
-returns-2 c =
-    let l = c .before .before .before in
-    let g = l .before .before .before .args in
-    sym (l .loop .inv .3 ∙ judge-low (g .n) (endsIn (g .s .now) (g .count)) (l .loop .k) (l .loop .before) (omega (arith, ends-length (g .s .now) (g .count))) (omega (arith, read-end (c .before))))
+bad-end-requires : tie.Need-bad-end-requires Inv-loop μ-loop
+bad-end-requires c κs = search needs
+
+add-t15 : tie.Need-add-t15 Inv-loop μ-loop
+add-t15 c = omega arith
 
 cast-t16 : tie.Need-cast-t16 Inv-loop μ-loop
 cast-t16 c = omega arith
 
-add-t17 : tie.Need-add-t17 Inv-loop μ-loop
-add-t17 c = omega arith
-
-returns-3 : tie.Need-returns-3 Inv-loop μ-loop
-returns-3 c =
-    let l = c .before .before .before .before in
-    let g = l .before .before .before .args in
-    sym (l .loop .inv .3 ∙ judge-high (g .n) (endsIn (g .s .now) (g .count)) (l .loop .k) (l .loop .before) (omega (arith, ends-length (g .s .now) (g .count))) (omega (arith, read-end (c .before .before))))
+returns-2 : tie.Need-returns-2 Inv-loop μ-loop
+returns-2 c =
+    let r = c .before .before in
+    let t = r .before .before in
+    judged-bad-end anyPiece (number-of t) (ends t) (t .loop .k) (t .loop .before) (r .number .result) (inside t (omega arith)) (read-end r (omega arith)) (sym (c .before .bad-end .ensures) ∙ c .if2 .taken) ∙ t .loop .inv .3
 
 add-k : tie.Need-add-k Inv-loop μ-loop
 add-k c = omega arith
@@ -72,30 +88,28 @@ loop-less c = omega arith
 
 loop-again : tie.Need-loop-again Inv-loop μ-loop
 loop-again c =
-    let l = c .before .before .before .before in
-    let g = l .before .before .before .args in
-    let e = read-end (c .before .before) in (
+    let r = c .before .before in
+    let t = r .before .before in
+    let e : badEnd? (number-of t) (t .loop .before) (r .number .result) ≡ false = sym (c .before .bad-end .ensures) ∙ c .if2 .left in
+    let f = end-fits (number-of t) (t .loop .before) (r .number .result) e in (
       omega arith,
-      omega arith,
-      omega arith,
-      l .loop .inv .3 ∙ judge-more (g .n) (endsIn (g .s .now) (g .count)) (l .loop .k) (l .loop .before) (omega (arith, ends-length (g .s .now) (g .count))) (omega (arith, e)) (omega (arith, e))
-          ∙ ap (judgedFrom (g .n) (endsIn (g .s .now) (g .count)) (l .loop .k + 1)) e,
+      omega (arith, f),
+      f .1,
+      judged-block anyPiece (number-of t) (ends t) (t .loop .k) (t .loop .before) (r .number .result) (inside t (omega arith)) (read-end r (omega arith)) e refl ∙ t .loop .inv .3,
     )
+
+returns-3 : tie.Need-returns-3 Inv-loop μ-loop
+returns-3 c =
+    let t = c .before .before in
+    judged-unfinished anyPiece (number-of t) (ends t) (t .loop .k) (t .loop .before) (omega (arith, ends-length (bytes t) (stated t))) (c .if3 .taken) ∙ t .loop .inv .3
+
+cast-t19 : tie.Need-cast-t19 Inv-loop μ-loop
+cast-t19 c = omega arith
 
 returns-4 : tie.Need-returns-4 Inv-loop μ-loop
 returns-4 c =
-    let l = c .before .before in
-    let g = l .before .before .before .args in
-    sym (l .loop .inv .3 ∙ judge-unfinished (g .n) (endsIn (g .s .now) (g .count)) (l .loop .k) (l .loop .before) (omega (arith, ends-length (g .s .now) (g .count))) (c .if4 .taken))
-
-cast-t20 : tie.Need-cast-t20 Inv-loop μ-loop
-cast-t20 c = omega arith
-
-returns-5 : tie.Need-returns-5 Inv-loop μ-loop
-returns-5 c =
-    let l = c .before .before in
-    let g = l .before .before .before .args in
-    sym (l .loop .inv .3 ∙ judge-done (g .n) (endsIn (g .s .now) (g .count)) (l .loop .k) (l .loop .before) (omega (arith, ends-length (g .s .now) (g .count))) (c .if4 .left))
+    let t = c .before .before in
+    judged-finished anyPiece (number-of t) (ends t) (t .loop .k) (t .loop .before) (omega (arith, ends-length (bytes t) (stated t))) (c .if3 .left) ∙ t .loop .inv .3
 
 pub judge-line-spec : {M : Type 1} → statement M
 judge-line-spec =
@@ -108,15 +122,14 @@ judge-line-spec =
     mul-number
     add-number
     number-requires
-    cast-t13
-    add-t14
-    returns-2
+    cast-end
+    bad-end-requires
+    add-t15
     cast-t16
-    add-t17
-    returns-3
+    returns-2
     add-k
     loop-less
     loop-again
-    returns-4
-    cast-t20
-    returns-5)
+    returns-3
+    cast-t19
+    returns-4)

@@ -7,8 +7,9 @@ use borrow.Author.Needs.{needs}
 use lib.ListN.{length}
 use Rattle.periods.specs.Period.{anyPeriod, turns}
 use Rattle.repetitions.proofs.Blocks.{block-up}
-use Rattle.report.specs.Text.{blockName, line, blockLine}
-use Rattle.report.proofs.Stores.{stored, stored-as, ensured}
+use Rattle.report.specs.Text.{blockName, blockLine}
+use Rattle.writers.specs.Line.{line}
+use Rattle.writers.proofs.Stores.{stored, stored-as, ensured}
 use Rattle.report.proofs.Lines.{block-line-is, block-unit, found-is-run-number, found-most}
 use Rattle.report.proofs.inner.block_line.Statement.{statement}
 use Rattle.report.proofs.inner.block_line.Tie as tie

@@ -10,7 +10,7 @@ use Rattle.factors.specs.Factorization.{Chain}
 use Rattle.repetitions.specs.Block.{Block}
 use Rattle.repetitions.proofs.Blocks.{block-up}
 use Rattle.report.specs.Text.{blockLine, blockLines}
-use Rattle.report.proofs.Stores.{Left, stored, stored-length, ensured, left-all, left-as, left-less, left-none}
+use Rattle.writers.proofs.Stores.{Left, stored, stored-length, ensured, left-all, left-as, left-less, left-none}
 use Rattle.report.proofs.Lines.{block-lines-long, block-lines-more, block-lines-done, chain-more}
 use Rattle.report.proofs.Splits.{split-half}
 use Rattle.report.proofs.inner.block_lines.Statement.{statement}

@@ -11,15 +11,13 @@ use lib.Seq.{sets}
 use Rattle.runs.specs.Table.{runsOf}
 use Rattle.runs.proofs.Records.{length-records}
 use Rattle.report.specs.Text.{text}
-use Rattle.report.specs.Records.{heldRows}
-use Rattle.report.proofs.Stores.{Stored, printed-few, printed-all}
-use Rattle.report.proofs.Lines.{records-held}
+use Rattle.writers.proofs.Stores.{Stored, printed-few, printed-all}
 use Rattle.report.proofs.Splits.{text-long}
 use Rattle.report.proofs.inner.print.Statement.{statement}
 use Rattle.report.proofs.inner.print.Tie as tie
 
-records-requires : tie.Need-records-requires
-records-requires c κs = search needs
+held-requires : tie.Need-held-requires
+held-requires c κs = search needs
 
 sub-write-text : tie.Need-sub-write-text
 sub-write-text c = search needs
@@ -31,10 +29,10 @@ part-write-text-end : tie.Need-part-write-text-end
 part-write-text-end c = search needs
 
 -- the finder's records are those of the runs
-runs-held : (c : tie.After-records) → take (c .before .before .before .before .args .count) (c .records .result) ≡ heldRows (runsOf (c .before .before .before .before .args .w .now))
+runs-held : (c : tie.After-held) → take (c .before .before .before .before .args .count) (c .held .result) ≡ runsOf (c .before .before .before .before .args .w .now)
 runs-held c =
     let g = c .before .before .before .before in
-    c .records .ensures ∙ records-held (g .args .table .now) (g .args .count) ∙ ap heldRows (g .pre .3)
+    c .held .ensures ∙ g .pre .3
 
 -- all of the text is stored
 whole : (w t u : List ℕ) (n : ℕ) → (n ≡ length (text w)) × (u ≡ sets t 0 (text w)) → Stored t 0 (text w) u n
@@ -43,7 +41,7 @@ whole w t u n e = record { place = e .0 ∙ sym (zero-add (length (text w))); by
 write-text-requires : tie.Need-write-text-requires
 write-text-requires c κs =
     let g = c .before .before .before .before .before .pre in
-    (g .0, g .1, g .2, g .3, runs-held (c .before))
+    (g, runs-held (c .before))
 
 same-length : tie.Need-same-length
 same-length c = search needs
@@ -57,7 +55,7 @@ returns c =
 write-text-requires-2 : tie.Need-write-text-requires-2
 write-text-requires-2 c κs =
     let g = c .before .before .before .before .before .before .before .before .before .before .pre in
-    (g .0, g .1, g .2, g .3, runs-held (c .before .before .before .before .before .before))
+    (g, runs-held (c .before .before .before .before .before .before))
 
 cast-t16 : tie.Need-cast-t16
 cast-t16 c =
@@ -79,7 +77,7 @@ pub print-spec : {M : Type 1} → statement M
 print-spec =
     tie.close
     (tie.spec
-    records-requires
+    held-requires
     sub-write-text
     part-write-text-start
     part-write-text-end

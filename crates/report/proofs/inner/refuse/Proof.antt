@@ -2,7 +2,7 @@
 use mathlib.Core.List.{[], _++_}
 use borrow.Author.Needs.{needs}
 use Rattle.report.specs.Text.{refusedText}
-use Rattle.report.proofs.Stores.{stored, printed-few, printed-all}
+use Rattle.writers.proofs.Stores.{stored, printed-few, printed-all}
 use Rattle.report.proofs.inner.refuse.Statement.{statement}
 use Rattle.report.proofs.inner.refuse.Tie as tie
 

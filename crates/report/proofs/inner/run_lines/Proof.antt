@@ -4,11 +4,12 @@ use mathlib.Core.List.{_∷_}
 use Prim.Native.Nat.{ℕ, _+_, _-_, _≤_}
 use native.Mathlib.Omega.{arith}
 use lib.ListN.{length}
-use Rattle.runs.specs.Table.{numbersOf}
-use Rattle.runs.specs.Inner.{records}
-use Rattle.runs.proofs.Records.{recordAt, length-records}
-use Rattle.report.specs.Text.{runName, line, runLines}
-use Rattle.report.proofs.Stores.{Stored, stored, stored-as, stored-none, stored-more, stored-length, ensured}
+use Rattle.runs.specs.declared.Record.{Record}
+use Rattle.runs.specs.Table.{numbersOf, records, recordAt}
+use Rattle.runs.proofs.Records.{length-records}
+use Rattle.report.specs.Text.{runName, runLines}
+use Rattle.writers.specs.Line.{line}
+use Rattle.writers.proofs.Stores.{Stored, stored, stored-as, stored-none, stored-more, stored-length, ensured}
 use Rattle.report.proofs.Lines.{run-lines-none, run-lines-more, run-lines-long}
 use Rattle.report.proofs.inner.run_lines.Statement.{statement}
 use Rattle.report.proofs.inner.run_lines.Tie as tie
@@ -24,38 +25,14 @@ loop-holds c =
     let g = c .before .before .args in
     (omega arith, refl, stored-as (runLines 0 (records 0 (g .table .now))) (sym (run-lines-none (g .table .now))) (stored-none (g .out .now) (g .at)))
 
-mul-place : tie.Need-mul-place Inv-loop μ-loop
-mul-place c = omega arith
+row-requires : tie.Need-row-requires Inv-loop μ-loop
+row-requires c κs = omega arith
 
 add-t11 : tie.Need-add-t11 Inv-loop μ-loop
 add-t11 c = omega arith
 
 cast-t12 : tie.Need-cast-t12 Inv-loop μ-loop
 cast-t12 c = omega arith
-
-mul-t13 : tie.Need-mul-t13 Inv-loop μ-loop
-mul-t13 c = omega arith
-
-shared-slice-read-t15 : tie.Need-shared-slice-read-t15 Inv-loop μ-loop
-shared-slice-read-t15 c = omega arith
-
-add-t16 : tie.Need-add-t16 Inv-loop μ-loop
-add-t16 c = omega arith
-
-mul-t17 : tie.Need-mul-t17 Inv-loop μ-loop
-mul-t17 c = omega arith
-
-shared-slice-read-t19 : tie.Need-shared-slice-read-t19 Inv-loop μ-loop
-shared-slice-read-t19 c = omega arith
-
-add-t20 : tie.Need-add-t20 Inv-loop μ-loop
-add-t20 c = omega arith
-
-mul-t21 : tie.Need-mul-t21 Inv-loop μ-loop
-mul-t21 c = omega arith
-
-shared-slice-read-t23 : tie.Need-shared-slice-read-t23 Inv-loop μ-loop
-shared-slice-read-t23 c = omega arith
 
 slice-aggregate-put-line : tie.Need-slice-aggregate-put-line Inv-loop μ-loop
 slice-aggregate-put-line c = omega arith
@@ -65,8 +42,8 @@ slice-aggregate-put-line-2 c = omega arith
 
 put-line-requires : tie.Need-put-line-requires Inv-loop μ-loop
 put-line-requires c κs =
-    let t = c .before .before .before .before .before .before .before .before .before .before .args .table .now in
-    let l = c .before .before .before .before .before .before .before .loop in
+    let l = c .before .before .before .before .before .loop in
+    let t = c .before .before .before .before .before .before .before .before .args .table .now in
     (omega (arith, l .inv .2 .place, run-lines-long (records (l .i) t) 0, length-records t (l .i)), omega arith, omega arith)
 
 add-i : tie.Need-add-i Inv-loop μ-loop
@@ -77,10 +54,12 @@ loop-less c = omega arith
 
 loop-again : tie.Need-loop-again Inv-loop μ-loop
 loop-again c =
-    let t = c .before .before .before .before .before .before .before .before .before .before .before .before .before .args .table .now in
-    let l = c .before .before .before .before .before .before .before .before .before .before .loop in
-    let S = stored (l .out) (l .next) (line runName ((l .i + 1) ∷ numbersOf (recordAt t (l .i)))) _ _ (c .before .before .put-line .ensures) in
-    (omega arith, stored-length S ∙ l .inv .1, stored-as (runLines 0 (records (l .i + 1) t)) (run-lines-more t (l .i)) (stored-more (l .inv .2) S))
+    let r = c .before .before .before .before .before .before .row in
+    let l = c .before .before .before .before .before .before .before .before .loop in
+    let t = c .before .before .before .before .before .before .before .before .before .before .before .args .table .now in
+    let S = stored (l .out) (l .next) (line runName ((l .i + 1) ∷ numbersOf (r .result))) _ _ (c .before .before .put-line .ensures) in
+    let L = stored-as (line runName ((l .i + 1) ∷ numbersOf (recordAt t (l .i)))) (ap (λ (run : Record). line runName ((l .i + 1) ∷ numbersOf run)) (r .ensures)) S in
+    (omega arith, stored-length S ∙ l .inv .1, stored-as (runLines 0 (records (l .i + 1) t)) (run-lines-more t (l .i)) (stored-more (l .inv .2) L))
 
 same-length : tie.Need-same-length Inv-loop μ-loop
 same-length c = c .before .loop .inv .1
@@ -99,17 +78,9 @@ run-lines-spec =
     Inv-loop
     μ-loop
     loop-holds
-    mul-place
+    row-requires
     add-t11
     cast-t12
-    mul-t13
-    shared-slice-read-t15
-    add-t16
-    mul-t17
-    shared-slice-read-t19
-    add-t20
-    mul-t21
-    shared-slice-read-t23
     slice-aggregate-put-line
     slice-aggregate-put-line-2
     put-line-requires

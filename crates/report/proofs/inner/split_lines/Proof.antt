@@ -7,9 +7,10 @@ use native.Mathlib.Omega.{arith}
 use borrow.Author.Needs.{needs}
 use lib.ListN.{take, replicate, length-replicate}
 use Rattle.factors.specs.Table.{rows}
-use Rattle.report.specs.Text.{programLimit, noneText, line, blockLines, splitText}
+use Rattle.report.specs.Text.{programLimit, noneText, blockLines, splitText}
+use Rattle.writers.specs.Line.{line}
 use Rattle.report.specs.Records.{mostBlocks}
-use Rattle.report.proofs.Stores.{stored, stored-as, stored-more, ensured, line-long}
+use Rattle.writers.proofs.Stores.{stored, stored-as, stored-more, ensured, line-long}
 use Rattle.report.proofs.Splits.{endsOf, Blocked, split-refused, split-counted}
 use Rattle.report.proofs.inner.split_lines.Statement.{statement}
 use Rattle.report.proofs.inner.split_lines.Tie as tie

@@ -5,11 +5,11 @@ use native.Mathlib.Omega.{arith}
 use native.Mathlib.Nat.{zero-add}
 use borrow.Author.Needs.{needs}
 use lib.ListN.{length}
-use Rattle.runs.specs.Table.{runsOf}
-use Rattle.runs.specs.Inner.{records}
+use Rattle.runs.specs.Table.{runsOf, records}
 use Rattle.runs.proofs.Records.{length-records}
-use Rattle.report.specs.Text.{passesName, fewestName, mostName, line, runLines, splitText, text}
-use Rattle.report.proofs.Stores.{stored, stored-as, left-all, left-less, left-last, line-long}
+use Rattle.report.specs.Text.{passesName, fewestName, mostName, runLines, splitText, text}
+use Rattle.writers.specs.Line.{line}
+use Rattle.writers.proofs.Stores.{stored, stored-as, left-all, left-less, left-last, line-long}
 use Rattle.report.proofs.Lines.{run-lines-long}
 use Rattle.report.proofs.Splits.{text-is, split-long}
 use Rattle.report.proofs.inner.write_text.Statement.{statement}
@@ -30,7 +30,7 @@ put-line-requires c κs = search needs
 run-lines-requires : tie.Need-run-lines-requires
 run-lines-requires c κs =
     let g = c .before .before .before .before .before .before .before .before .before .before in
-    (omega (arith, c .before .before .before .put-line .ensures .0, line-long passesName (length (g .args .w .now) ∷ [])), g .pre .1, g .pre .2)
+    (omega (arith, c .before .before .before .put-line .ensures .0, line-long passesName (length (g .args .w .now) ∷ [])), g .pre .0 .1, g .pre .0 .2)
 
 slice-aggregate-split-lines : tie.Need-slice-aggregate-split-lines
 slice-aggregate-split-lines c = search needs
@@ -38,7 +38,7 @@ slice-aggregate-split-lines c = search needs
 split-lines-requires : tie.Need-split-lines-requires
 split-lines-requires c κs =
     let g = c .before .before .before .before .before .before .before .before .before .before .before .before .before .before .before in
-    ((omega (arith, c .before .before .before .before .before .before .before .before .put-line .ensures .0, line-long passesName (length (g .args .w .now) ∷ []), c .before .before .before .before .run-lines .ensures .0, run-lines-long (records (g .args .count) (g .args .table .now)) 0, length-records (g .args .table .now) (g .args .count), g .pre .1), g .pre .0, omega arith, omega arith, omega arith), (g .pre .1, g .pre .4))
+    ((omega (arith, c .before .before .before .before .before .before .before .before .put-line .ensures .0, line-long passesName (length (g .args .w .now) ∷ []), c .before .before .before .before .run-lines .ensures .0, run-lines-long (records (g .args .count) (g .args .table .now)) 0, length-records (g .args .table .now) (g .args .count), g .pre .0 .1), g .pre .0 .0, omega arith, omega arith, omega arith), (g .pre .0 .1, g .pre .1))
 
 slice-aggregate-split-lines-2 : tie.Need-slice-aggregate-split-lines-2
 slice-aggregate-split-lines-2 c = search needs
@@ -46,7 +46,7 @@ slice-aggregate-split-lines-2 c = search needs
 split-lines-requires-2 : tie.Need-split-lines-requires-2
 split-lines-requires-2 c κs =
     let g = c .before .before .before .before .before .before .before .before .before .before .before .before .before .before .before .before .before .before .before .before in
-    ((omega (arith, c .before .before .before .before .before .before .before .before .before .before .before .before .before .put-line .ensures .0, line-long passesName (length (g .args .w .now) ∷ []), c .before .before .before .before .before .before .before .before .before .run-lines .ensures .0, run-lines-long (records (g .args .count) (g .args .table .now)) 0, length-records (g .args .table .now) (g .args .count), g .pre .1, c .before .before .before .before .split-lines .ensures .0, split-long (g .args .w .now) 1 fewestName (g .pre .0) (omega arith)), g .pre .0, omega arith, omega arith, omega arith), (g .pre .1, g .pre .4))
+    ((omega (arith, c .before .before .before .before .before .before .before .before .before .before .before .before .before .put-line .ensures .0, line-long passesName (length (g .args .w .now) ∷ []), c .before .before .before .before .before .before .before .before .before .run-lines .ensures .0, run-lines-long (records (g .args .count) (g .args .table .now)) 0, length-records (g .args .table .now) (g .args .count), g .pre .0 .1, c .before .before .before .before .split-lines .ensures .0, split-long (g .args .w .now) 1 fewestName (g .pre .0 .0) (omega arith)), g .pre .0 .0, omega arith, omega arith, omega arith), (g .pre .0 .1, g .pre .1))
 
 same-length : tie.Need-same-length
 same-length c = search needs
@@ -62,9 +62,9 @@ returns c =
     let F = splitText w 1 fewestName in
     let R = runLines 0 (runsOf w) in
     let A = line passesName (length w ∷ []) in
-    let one = left-less (R ++ (F ++ M)) (left-all (g .args .out .now) 0 (text w) (A ++ (R ++ (F ++ M))) (text-is w (g .pre .0))) (stored (g .args .out .now) 0 A _ _ (a .ensures)) in
+    let one = left-less (R ++ (F ++ M)) (left-all (g .args .out .now) 0 (text w) (A ++ (R ++ (F ++ M))) (text-is w (g .pre .0 .0))) (stored (g .args .out .now) 0 A _ _ (a .ensures)) in
     let rows = stored (a .last .0) (a .result) (runLines 0 (records (g .args .count) (g .args .table .now))) (r .last .1 .1 .0) (r .result) (r .ensures) in
-    let two = left-less (F ++ M) one (stored-as R (ap (runLines 0) (g .pre .3)) rows) in
+    let two = left-less (F ++ M) one (stored-as R (ap (runLines 0) (g .pre .0 .3)) rows) in
     let three = left-less M two (stored (r .last .1 .1 .0) (r .result) F (f .last .1 .1 .1 .1 .1 .0) (f .result) (f .ensures)) in
     let S = left-last three (stored (f .last .1 .1 .1 .1 .1 .0) (f .result) M _ _ (c .before .before .split-lines2 .ensures)) in
     (S .place ∙ zero-add (length (text w)), S .bytes)

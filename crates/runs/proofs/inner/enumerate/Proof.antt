@@ -27,7 +27,7 @@ rows-at-requires : tie.Need-rows-at-requires Inv-loop μ-loop
 rows-at-requires c κs =
     let g = c .before .before .before .before .before .before .before .args in
     let l = c .before .before .before .loop in
-    (omega arith, omega arith, omega (arith, l .inv .4), omega (arith, l .inv .1, rows-before-at-most (g .w .now) (l .a) (omega arith)))
+    (omega arith, (omega arith, omega (arith, l .inv .4)), omega (arith, l .inv .1, rows-before-at-most (g .w .now) (l .a) (omega arith)))
 
 add-a : tie.Need-add-a Inv-loop μ-loop
 add-a c = omega arith

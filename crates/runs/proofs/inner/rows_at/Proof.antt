@@ -8,7 +8,7 @@ use borrow.Author.Tests.{not-true, not-false}
 use lib.ListN.{length, getD, length-append}
 use lib.Seq.{sets, length-sets}
 use Rattle.periods.specs.Period.{part, smallestPeriod}
-use Rattle.runs.specs.Run.{Row}
+use Rattle.runs.specs.declared.Record.{Record}
 use Rattle.runs.specs.Table.{rowsAt, stride, flat}
 use Rattle.runs.specs.Inner.{unitsAt}
 use Rattle.periods.proofs.Claims.{part-smallest}
@@ -119,17 +119,17 @@ loop-again c =
     rows-skip (word t) (start t) (t .loop .b) (omega arith) (sym (c .before .is-run .ensures) ∙ not-true _ (c .if1 .taken)) in
     (omega arith, omega arith, rw e (t .loop .inv .2), rw e (t .loop .inv .3))
 
-add-put : tie.Need-add-put Inv-loop μ-loop
-add-put c = omega arith
+add-t19 : tie.Need-add-t19 Inv-loop μ-loop
+add-t19 c = omega arith
 
-cast-put : tie.Need-cast-put Inv-loop μ-loop
-cast-put c = omega arith
+cast-t23 : tie.Need-cast-t23 Inv-loop μ-loop
+cast-t23 c = omega arith
 
-cast-put-2 : tie.Need-cast-put-2 Inv-loop μ-loop
-cast-put-2 c = omega arith
+cast-t25 : tie.Need-cast-t25 Inv-loop μ-loop
+cast-t25 c = omega arith
 
-cast-put-3 : tie.Need-cast-put-3 Inv-loop μ-loop
-cast-put-3 c = omega (arith, unit-bound (c .before .before .before .before .before) (omega arith) (omega arith))
+cast-t26 : tie.Need-cast-t26 Inv-loop μ-loop
+cast-t26 c = omega (arith, unit-bound (c .before .before .before .before) (omega arith) (omega arith))
 
 put-requires : tie.Need-put-requires Inv-loop μ-loop
 put-requires c κs = omega (arith, count-bound (c .before .before .before .before .before))
@@ -148,7 +148,7 @@ loop-again-2 c =
     let t = c .before .before .before .before .before .before .before .before in
     let tested = c .before .before .before .before in
     let before = rowsAt (word t) (start t) (place t) in
-    let row : Row = record { first = start t + 1; last = t .loop .b; period = getD (found t) (place t) 0 } in
+    let row : Record = record { first = start t + 1; last = t .loop .b; period = getD (found t) (place t) 0 } in
     let e : rowsAt (word t) (start t) (t .loop .b + 1 - start t - 1) ≡ before ++ (row ∷ []) =
     rows-add (word t) (start t) (t .loop .b) _ (omega arith) (unit-read t (omega arith) (omega arith)) (sym (tested .before .is-run .ensures) ∙ not-false _ (tested .if1 .left)) in (
       omega arith,
@@ -192,10 +192,10 @@ rows-at-spec =
     add-b-2
     loop-less
     loop-again
-    add-put
-    cast-put
-    cast-put-2
-    cast-put-3
+    add-t19
+    cast-t23
+    cast-t25
+    cast-t26
     put-requires
     add-count
     add-b-3

@@ -1,0 +1,4 @@
+pub mod WhiteNodes
+pub mod CallClaims
+pub mod Determined
+pub mod Examples

@@ -1,0 +1,10 @@
+pub mod Counts
+pub mod Found
+pub mod LookUps
+pub mod Encodings
+pub mod Paths
+pub mod PathClaims
+pub mod NumberLaws
+pub mod PathJudgeClaims
+pub mod Determined
+pub mod Examples

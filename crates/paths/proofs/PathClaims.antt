@@ -1,0 +1,208 @@
+-- Path of a split gives the run numbers of the one path that goes with the split (path-means): there is only one run that encloses a block and has its unit, so
+-- the first in the table is that run. That run starts where the symbols a unit apart cease to agree to the left (run-starts). Assumes nothing.
+use mathlib.Core.Path.{_≡_, refl, sym, ap, _∙_, subst}
+use mathlib.Core.Logic.{_≢_}
+use mathlib.Core.Bool.{cond, _&&_}
+use mathlib.Core.List.{List, [], _∷_, _++_}
+use Prim.Native.Nat.{ℕ, zero, suc, _+_, _-_, _≤_, _<_}
+use native.Mathlib.Omega.{arith}
+use native.Mathlib.Decide.{decLt, ℕ-discrete}
+use borrow.Author.Tests.{lt-ltb, le-ltb, eq-eqb, ne-eqb}
+use lib.Dec.{T, leb, ltb, eqb, leb→le, le→leb, eqb→eq, eqb-refl}
+use lib.ListN.{length, drop}
+use Rattle.laws.proofs.Tests.{and-intro, and-left, and-right}
+use Rattle.answers.proofs.Claims.{refused-accepted}
+use Rattle.answers.specs.Outcome.{Outcome, accepted, refused, limit, tableUnless}
+use Rattle.periods.specs.Period.{part, smallestPeriod, anyPeriod, turns}
+use Rattle.periods.proofs.InPlace.{symbol}
+use Rattle.runs.specs.Table.{runsOf}
+use Rattle.runs.proofs.InPlace.{RunIn}
+use Rattle.factors.specs.Factorization.{Chain, Factorization}
+use Rattle.factors.specs.Verdict.{VerdictMeaning, bad-end, no-block, unfinished, fine}
+use Rattle.repetitions.specs.Block.{Block}
+use Rattle.paths.specs.Graph.{Node, black, Path, GoTogether, encoding, runsOfPairs, endsOfPairs, Segment, Segments}
+use Rattle.repetitions.specs.Judge.{splitOutcome, SplitMeaning, too-long, judged}
+use Rattle.paths.specs.Calls.{runNumbers, pathOutcome, pathTable, PathMeaning, refused-split, too-few, numbered}
+use Rattle.runs.specs.Number.{encloses?, firstNumber, runNumber}
+use Rattle.paths.specs.Walk.{leftEnd}
+use Rattle.paths.proofs.Encodings.{encodes, encoding-ends, block-segment, segment-one-number, segment-period}
+use Rattle.repetitions.proofs.JudgeClaims.{split-means}
+use Rattle.runs.proofs.Number.{Passes, first-none, first-sound}
+
+two : 2 ≤ turns
+two = omega arith
+
+-- ---- the number of the run of a block
+
+module _ (w : List ℕ) (i j : ℕ) where
+  -- a run that encloses a block and has its unit
+  enclosing-segment : Block anyPeriod turns w i j → (r : ℕ) → Passes (encloses? i j (smallestPeriod (part w i j))) (runsOf w) r → Segment anyPeriod turns w r i j
+  enclosing-segment K r P =
+      let p = smallestPeriod (part w i j) in
+      let s = P .row in
+      let rest = and-right (leb (s .first) (i + 1)) (leb j (s .last) && eqb (s .period) p) (P .passed) in
+      let S = block-segment anyPeriod turns w two i j K .1 in
+      record {
+        run = s;
+        numbered = P .entry;
+        starts = leb→le (s .first) (i + 1) (and-left (leb (s .first) (i + 1)) (leb j (s .last) && eqb (s .period) p) (P .passed));
+        ends = leb→le j (s .last) (and-left (leb j (s .last)) (eqb (s .period) p) rest);
+        long = omega (arith, eqb→eq (s .period) p (and-right (leb j (s .last)) (eqb (s .period) p) rest), S .long, segment-period anyPeriod turns w two _ i j S);
+        permitted = tt;
+      }
+
+  segment-encloses : (r : ℕ) → Segment anyPeriod turns w r i j → Passes (encloses? i j (smallestPeriod (part w i j))) (runsOf w) r
+  segment-encloses r S =
+      let p = smallestPeriod (part w i j) in
+      record {
+        row = S .run;
+        entry = S .numbered;
+        passed =
+            and-intro (leb (S .run .first) (i + 1)) (leb j (S .run .last) && eqb (S .run .period) p) (le→leb (S .run .first) (i + 1) (S .starts))
+            (and-intro (leb j (S .run .last)) (eqb (S .run .period) p) (le→leb j (S .run .last) (S .ends))
+            (subst (λ (x : ℕ). T (eqb (S .run .period) x)) (segment-period anyPeriod turns w two r i j S) (eqb-refl (S .run .period))));
+      }
+
+  -- CLAIM: the number is that of the one run that encloses the block and has its unit
+  pub run-number-segment : Block anyPeriod turns w i j → Segment anyPeriod turns w (runNumber w i j) i j
+  unfolding runNumber
+  run-number-segment K = go (firstNumber (encloses? i j (smallestPeriod (part w i j))) (runsOf w)) refl
+    where
+      go : (m : ℕ) → firstNumber (encloses? i j (smallestPeriod (part w i j))) (runsOf w) ≡ m → Segment anyPeriod turns w m i j
+      go zero e =
+          let s = block-segment anyPeriod turns w two i j K in
+          absurd (first-none (encloses? i j (smallestPeriod (part w i j))) (runsOf w) e (s .0) (segment-encloses (s .0) (s .1)))
+      go (suc m) e = enclosing-segment K (suc m) (first-sound (encloses? i j (smallestPeriod (part w i j))) (runsOf w) m e)
+
+  pub run-number-unique : Block anyPeriod turns w i j → (r : ℕ) → Segment anyPeriod turns w r i j → runNumber w i j ≡ r
+  run-number-unique K r S = segment-one-number anyPeriod turns w two (runNumber w i j) r i j (run-number-segment K) S
+
+-- the run numbers and the ends, one after the other
+pairs : List ℕ → List ℕ → List ℕ
+pairs [] es = []
+pairs (r ∷ rs) [] = []
+pairs (r ∷ rs) (e ∷ es) = r ∷ e ∷ pairs rs es
+
+-- those of a factorization encode a path
+numbers-segments : (w : List ℕ) (es : List ℕ) (i : ℕ) → Chain (Block anyPeriod turns w) i es (length w)
+    → Segments anyPeriod turns w i (pairs (runNumbers w i es) es) (length w) × (runsOfPairs (pairs (runNumbers w i es) es) ≡ runNumbers w i es) × (endsOfPairs (pairs (runNumbers w i es) es) ≡ es)
+unfolding pairs runNumbers
+numbers-segments w [] i h = (h, refl, refl)
+numbers-segments w (e ∷ es) i h =
+    let r = numbers-segments w es e (h .1) in
+    ((run-number-segment w i e (h .0), r .0), ap (λ (x : List ℕ). runNumber w i e ∷ x) (r .1), ap (λ (x : List ℕ). e ∷ x) (r .2))
+
+-- CLAIM: the run numbers are those of the one path that goes with the split
+pub numbers-path : (w ends : List ℕ) → Factorization (Block anyPeriod turns w) (length w) ends
+    → (xs : List Node) × Path anyPeriod turns w (length w) xs × GoTogether xs ends × (runsOfPairs (encoding (black 0) xs) ≡ runNumbers w 0 ends)
+numbers-path w ends h =
+    let s = numbers-segments w ends 0 h in
+    let p = encodes anyPeriod turns w (length w) (pairs (runNumbers w 0 ends) ends) (s .0) in
+    (p .0, p .1, sym (encoding-ends (black 0) (p .0)) ∙ ap endsOfPairs (p .2) ∙ s .2, ap runsOfPairs (p .2) ∙ s .1)
+
+pub length-run-numbers : (w : List ℕ) (i : ℕ) (ends : List ℕ) → length (runNumbers w i ends) ≡ length ends
+unfolding runNumbers
+length-run-numbers w i [] = refl
+length-run-numbers w i (e ∷ es) = ap suc (length-run-numbers w e es)
+
+-- ---- path of a split
+
+path-refused : (w ends t : List ℕ) (x i : ℕ) → splitOutcome w ends ≡ refused x i → (refused x i ≡ pathOutcome w ends (length t)) × (t ≡ pathTable w ends t)
+unfolding pathOutcome pathTable
+path-refused w ends t x i e = (rw e refl, rw e refl)
+
+path-accepts : (w ends t : List ℕ) (v : List ℕ) → splitOutcome w ends ≡ accepted v
+    → (cond (ltb (length t) (length ends)) (refused 7 0) (accepted (length ends ∷ [])) ≡ pathOutcome w ends (length t))
+    × (tableUnless (cond (ltb (length t) (length ends)) (refused 7 0) (accepted (length ends ∷ []))) t (runNumbers w 0 ends ++ drop (length ends) t) ≡ pathTable w ends t)
+unfolding pathOutcome pathTable
+path-accepts w ends t v e = (rw e refl, rw e refl)
+
+-- what the call promises
+pub record PathPromised (w ends t : List ℕ) (o : Outcome) (u : List ℕ) : Type 0 where
+  pub answer : o ≡ pathOutcome w ends (length t)
+  pub table : u ≡ pathTable w ends t
+
+module _ (w ends t : List ℕ) where
+  pub path-promised-refused : (x i : ℕ) → refused x i ≡ splitOutcome w ends → PathPromised w ends t (refused x i) t
+  path-promised-refused x i e = let p = path-refused w ends t x i (sym e) in record { answer = p .0; table = p .1 }
+
+  pub path-promised-few : (v : List ℕ) → accepted v ≡ splitOutcome w ends → length t < length ends → PathPromised w ends t (refused 7 0) t
+  path-promised-few v e h = let p = path-accepts w ends t v (sym e) in record { answer = rw (lt-ltb (length t) (length ends) h) at (p .0); table = rw (lt-ltb (length t) (length ends) h) at (p .1) }
+
+  pub path-promised-numbered : (v : List ℕ) → accepted v ≡ splitOutcome w ends → length ends ≤ length t
+      → PathPromised w ends t (accepted (length ends ∷ [])) (runNumbers w 0 ends ++ drop (length ends) t)
+  path-promised-numbered v e h = let p = path-accepts w ends t v (sym e) in record { answer = rw (le-ltb (length t) (length ends) h) at (p .0); table = rw (le-ltb (length t) (length ends) h) at (p .1) }
+
+  -- an accepted split is a factorization, with its number of blocks
+  pub accepted-split : (v : List ℕ) → accepted v ≡ splitOutcome w ends → (length w ≤ limit) × (v ≡ length ends ∷ []) × Factorization (Block anyPeriod turns w) (length w) ends
+  accepted-split v e = go (split-means w ends)
+    where
+      clash : (x i : ℕ) → splitOutcome w ends ≡ refused x i → ⊥
+      clash x i f = refused-accepted (splitOutcome w ends) x i v f (sym e)
+
+      go : SplitMeaning w ends (splitOutcome w ends) → (length w ≤ limit) × (v ≡ length ends ∷ []) × Factorization (Block anyPeriod turns w) (length w) ends
+      go (too-long h f) = absurd (clash 1 0 f)
+      go (judged h J) = by (J .verdict-on)
+        where
+          by : VerdictMeaning (λ k. Block anyPeriod turns w) (length w) ends (splitOutcome w ends) → (length w ≤ limit) × (v ≡ length ends ∷ []) × Factorization (Block anyPeriod turns w) (length w) ends
+          by (bad-end k a b d f g) = absurd (clash 3 k g)
+          by (no-block k a b d f g x) = absurd (clash 4 k x)
+          by (unfinished a b f) = absurd (clash 5 0 f)
+          by (fine a b f) = let q : v ≡ length ends ∷ [] = cc in (h, q, J .accepts .0 f)
+
+  -- CLAIM: path of a split says what document 01 asks
+  pub path-means : PathMeaning w ends t (pathOutcome w ends (length t)) (pathTable w ends t)
+  path-means = go (splitOutcome w ends) refl
+    where
+      by : {o : Outcome} {u : List ℕ} → PathPromised w ends t o u → PathMeaning w ends t o u → PathMeaning w ends t (pathOutcome w ends (length t)) (pathTable w ends t)
+      by P M = rw (← P .answer, ← P .table) M
+
+      go : (o : Outcome) → o ≡ splitOutcome w ends → PathMeaning w ends t (pathOutcome w ends (length t)) (pathTable w ends t)
+      go (refused x i) e = by (path-promised-refused x i e) (refused-split x i (subst (SplitMeaning w ends) (sym e) (split-means w ends)) refl refl)
+      go (accepted v) e = room (decLt (length t) (length ends)) (accepted-split v e)
+        where
+          room : Dec (length t < length ends) → (length w ≤ limit) × (v ≡ length ends ∷ []) × Factorization (Block anyPeriod turns w) (length w) ends
+              → PathMeaning w ends t (pathOutcome w ends (length t)) (pathTable w ends t)
+          room (yes h) A = by (path-promised-few v e h) (too-few (A .0) (A .2) h refl refl)
+          room (no h) A =
+              let p = numbers-path w ends (A .2) in
+              by (path-promised-numbered v e (omega arith))
+              (numbered (A .0) (A .2) (omega arith) (p .0) (p .1) (p .2) refl (ap (λ (x : List ℕ). x ++ drop (length ends) t) (sym (p .3))))
+
+  pub path-answered : (o : Outcome) (u : List ℕ) → PathPromised w ends t o u → (o ≡ pathOutcome w ends (length t)) × ((u ≡ pathTable w ends t) × PathMeaning w ends t o u)
+  path-answered o u P = (P .answer, (P .table, rw (P .answer, P .table) path-means))
+
+-- ---- the left end of a block's run
+
+module _ (w : List ℕ) (p : ℕ) where
+  pub record LeftEnd (i a : ℕ) : Type 0 where
+    pub low : a ≤ i
+    pub agrees : (x : ℕ) → a ≤ x → x < i → symbol w x ≡ symbol w (x + p)
+    pub stops : (x : ℕ) → suc x ≡ a → symbol w x ≢ symbol w (x + p)
+
+  pub left-end-is : (i : ℕ) → LeftEnd i (leftEnd w p i)
+  unfolding leftEnd
+  left-end-is zero = record { low = omega arith; agrees = λ x a b. absurd (omega arith); stops = λ x e. absurd (omega arith) }
+  left-end-is (suc i) = go (left-end-is i) (ℕ-discrete (symbol w i) (symbol w (i + p)))
+    where
+      go : LeftEnd i (leftEnd w p i) → Dec (symbol w i ≡ symbol w (i + p)) → LeftEnd (suc i) (cond (eqb (symbol w i) (symbol w (i + p))) (leftEnd w p i) (suc i))
+      go L (yes e) =
+          rw (eq-eqb (symbol w i) (symbol w (i + p)) e)
+          record { low = omega (arith, L .low); agrees = λ x a b. at x a b (decLt x i); stops = L .stops }
+        where
+          at : (x : ℕ) → leftEnd w p i ≤ x → x < suc i → Dec (x < i) → symbol w x ≡ symbol w (x + p)
+          at x a b (yes l) = L .agrees x a l
+          at x a b (no l) = let z : x ≡ i = omega arith in rw z e
+      go L (no e) =
+          rw (ne-eqb (symbol w i) (symbol w (i + p)) e)
+          record { low = omega arith; agrees = λ x a b. absurd (omega arith); stops = λ x z. let y : x ≡ i = omega arith in rw y e }
+
+  -- a run with this period that encloses a piece of at least that length starts at the left end
+  pub run-starts : (A B i j : ℕ) → RunIn (symbol w) (length w) A B p → A ≤ i → i + p ≤ j → j ≤ B → leftEnd w p i ≡ A
+  run-starts A B i j R a h b = go (left-end-is i) (decLt (leftEnd w p i) A) (decLt A (leftEnd w p i))
+    where
+      go : LeftEnd i (leftEnd w p i) → Dec (leftEnd w p i < A) → Dec (A < leftEnd w p i) → leftEnd w p i ≡ A
+      go L (yes x) y = absurd (R .left (A - 1) (omega arith) (L .agrees (A - 1) (omega arith) (omega arith)))
+      go L (no x) (yes y) =
+          absurd (L .stops (leftEnd w p i - 1) (omega arith) (R .smallest .period .same (leftEnd w p i - 1) (omega arith) (omega (arith, L .low))))
+      go L (no x) (no y) = omega arith

@@ -1,0 +1,59 @@
+-- `paths::path_of_split` meets its contract: each way out is the case of `pathOutcome` that the split's verdict and the test lead to, and `path-means`
+-- says what that means. Assumes nothing.
+use mathlib.Core.Path.{sym, ap, _∙_}
+use borrow.Author.Needs.{needs}
+use Rattle.answers.specs.Outcome.{countedView, accepted}
+use Rattle.paths.proofs.PathClaims.{path-promised-refused, path-promised-few, path-promised-numbered, accepted-split, path-answered}
+use Rattle.paths.proofs.path_of_split.Statement.{statement}
+use Rattle.paths.proofs.path_of_split.Tie as tie
+
+judge-split-requires : tie.Need-judge-split-requires
+judge-split-requires c κs = search needs
+
+enum-known-verdict : tie.Need-enum-known-verdict
+enum-known-verdict c = search needs
+
+enum-known-verdict-2 : tie.Need-enum-known-verdict-2
+enum-known-verdict-2 c = search needs
+
+returns : tie.Need-returns
+returns c =
+    let g = c .before .before .before .before .before .before .before .before .args in
+    path-answered (g .w .now) (g .ends .now) (g .table .now) _ _
+    (path-promised-few (g .w .now) (g .ends .now) (g .table .now) _ (ap countedView (sym (c .before .before .verdict2 .given .1)) ∙ c .before .before .before .before .judge-split .ensures .0) (c .if1 .taken))
+
+number-blocks-requires : tie.Need-number-blocks-requires
+number-blocks-requires c κs =
+    let g = c .before .before .before .before .before .before .before .before .before .args in
+    let A = accepted-split (g .w .now) (g .ends .now) (g .table .now) _ (ap countedView (sym (c .before .before .before .verdict2 .given .1)) ∙ c .before .before .before .before .before .judge-split .ensures .0) in
+    (A .0, A .2, c .before .if1 .left)
+
+returns-2 : tie.Need-returns-2
+returns-2 c =
+    let g = c .before .before .before .before .before .before .before .args in
+    path-answered (g .w .now) (g .ends .now) (g .table .now) _ _
+    (path-promised-refused (g .w .now) (g .ends .now) (g .table .now) _ _ (ap countedView (sym (c .before .verdict .given .1)) ∙ c .before .before .before .judge-split .ensures .0))
+
+same-length : tie.Need-same-length
+same-length c = search needs
+
+returns-3 : tie.Need-returns-3
+returns-3 c =
+    let g = c .before .before .before .before .before .before .before .before .before .before .before .before .args in
+    let e = (ap countedView (sym (c .before .before .before .before .before .before .verdict2 .given .1)) ∙ c .before .before .before .before .before .before .before .before .judge-split .ensures .0) in
+    let A = accepted-split (g .w .now) (g .ends .now) (g .table .now) _ e in
+    let P = path-promised-numbered (g .w .now) (g .ends .now) (g .table .now) _ e (c .before .before .before .before .if1 .left) in
+    path-answered (g .w .now) (g .ends .now) (g .table .now) _ _ record { answer = ap accepted (A .1) ∙ P .answer; table = c .before .before .number-blocks .ensures ∙ P .table }
+
+pub path-of-split-spec : {M : Type 1} → statement M
+path-of-split-spec =
+    tie.close
+    (tie.spec
+    judge-split-requires
+    enum-known-verdict
+    enum-known-verdict-2
+    returns
+    number-blocks-requires
+    returns-2
+    same-length
+    returns-3)

@@ -1,0 +1,4 @@
+pub mod Graph
+pub mod LookUp
+pub mod Walk
+pub mod Calls

@@ -1,0 +1,47 @@
+// The repetition graph: path of a split, judge a path.
+ghost use mathlib.Core.Path.{_≡_};
+ghost use lib.ListN.{length};
+ghost use Rattle.answers.specs.Outcome.{countedView};
+ghost use Rattle.paths.specs.Calls.{pathOutcome, pathTable, PathMeaning, pathJudgedOutcome, PathJudgedMeaning};
+
+mod inner;
+
+use answers::Counted;
+use answers::Refusal;
+
+// Path of a split: writes the run number of each block, and gives the number of blocks. With the
+// ends these are the encoding of the one path that goes with the split. Refusals: those of
+// judge a split, then 7. Time: quadratic in the word's length at most; 81 KiB of stack.
+pub fn path_of_split(w: &[u8], ends: &[u32], table: &mut [u32]) -> Counted
+    ensures answer { λ r. ⌜ countedView r ≡ pathOutcome (now (w .entry)) (now (ends .entry)) (length (now (table .entry))) ⌝ }
+    ensures written { λ r. ⌜ now (table .exit) ≡ pathTable (now (w .entry)) (now (ends .entry)) (now (table .entry)) ⌝ }
+    ensures meaning { λ r. ⌜ PathMeaning (now (w .entry)) (now (ends .entry)) (now (table .entry)) (countedView r) (now (table .exit)) ⌝ }
+{
+    let verdict = repetitions::judge_split(w, ends);
+    match verdict {
+        Counted::Refused(r) => Counted::Refused(r),
+        Counted::Count(blocks) => {
+            if table.len() < ends.len() {
+                return Counted::Refused(Refusal::TooFewPlaces);
+            }
+            inner::number_blocks(w, ends, table);
+            Counted::Count(blocks)
+        }
+    }
+}
+
+// Judge a path, for each block a run number and then an end: accepted, with the number of blocks,
+// exactly when the numbers encode a path of the word's length in the repetition graph. Refusals: 1,
+// 10, then as for a split. Time: quadratic in the word's length at most; 81 KiB of stack.
+pub fn judge_path(w: &[u8], numbers: &[u32]) -> Counted
+    ensures answer { λ r. ⌜ countedView r ≡ pathJudgedOutcome (now (w .entry)) (now (numbers .entry)) ⌝ }
+    ensures meaning { λ r. ⌜ PathJudgedMeaning (now (w .entry)) (now (numbers .entry)) (countedView r) ⌝ }
+{
+    if answers::LIMIT < w.len() {
+        return Counted::Refused(Refusal::TooLong);
+    }
+    if numbers.len() % 2 == 1 {
+        return Counted::Refused(Refusal::OddPath);
+    }
+    inner::follow(w, numbers)
+}

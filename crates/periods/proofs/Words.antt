@@ -1,0 +1,39 @@
+-- The sequences of document 01 that its examples speak of, as words.
+use mathlib.Core.List.{List, [], _∷_}
+use Prim.Native.Nat.{ℕ}
+
+abbrev pub word-empty : List ℕ
+word-empty = []
+
+abbrev pub word-a : List ℕ
+word-a = 97 ∷ []
+
+abbrev pub word-ab : List ℕ
+word-ab = 97 ∷ 98 ∷ []
+
+abbrev pub word-aa : List ℕ
+word-aa = 97 ∷ 97 ∷ []
+
+abbrev pub word-aaaa : List ℕ
+word-aaaa = 97 ∷ 97 ∷ 97 ∷ 97 ∷ []
+
+abbrev pub word-aaaaa : List ℕ
+word-aaaaa = 97 ∷ 97 ∷ 97 ∷ 97 ∷ 97 ∷ []
+
+abbrev pub word-ababa : List ℕ
+word-ababa = 97 ∷ 98 ∷ 97 ∷ 98 ∷ 97 ∷ []
+
+abbrev pub word-baa : List ℕ
+word-baa = 98 ∷ 97 ∷ 97 ∷ []
+
+abbrev pub word-aabb : List ℕ
+word-aabb = 97 ∷ 97 ∷ 98 ∷ 98 ∷ []
+
+abbrev pub word-aabaabaa : List ℕ
+word-aabaabaa = 97 ∷ 97 ∷ 98 ∷ 97 ∷ 97 ∷ 98 ∷ 97 ∷ 97 ∷ []
+
+abbrev pub word-abaabaababaabaabababa : List ℕ
+word-abaabaababaabaabababa = 97 ∷ 98 ∷ 97 ∷ 97 ∷ 98 ∷ 97 ∷ 97 ∷ 98 ∷ 97 ∷ 98 ∷ 97 ∷ 97 ∷ 98 ∷ 97 ∷ 97 ∷ 98 ∷ 97 ∷ 98 ∷ 97 ∷ 98 ∷ 97 ∷ []
+
+abbrev pub word-aabaabaacbbcbbcbb : List ℕ
+word-aabaabaacbbcbbcbb = 97 ∷ 97 ∷ 98 ∷ 97 ∷ 97 ∷ 98 ∷ 97 ∷ 97 ∷ 99 ∷ 98 ∷ 98 ∷ 99 ∷ 98 ∷ 98 ∷ 99 ∷ 98 ∷ 98 ∷ []

@@ -1,0 +1,3 @@
+pub mod Loops
+pub mod LineClaims
+pub mod Examples

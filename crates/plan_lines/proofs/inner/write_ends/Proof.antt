@@ -1,0 +1,80 @@
+-- `plan_lines::inner::write_ends` meets its contract: before the turn for end k + 1 the first k ends are stored. Assumes nothing.
+use mathlib.Core.Path.{_≡_, refl, ap, _∙_}
+use mathlib.Core.List.{List, _∷_}
+use Prim.Native.Nat.{ℕ, _-_, _≤_}
+use native.Mathlib.Omega.{arith}
+use lib.ListN.{length, getD, take}
+use lib.Seq.{sets, take-length}
+use Rattle.decimals.specs.Decimal.{comma, digits}
+use Rattle.plan_lines.specs.Line.{width, fields, placeOfEnd}
+use Rattle.plan_lines.proofs.Loops.{write-ends-more}
+use Rattle.plan_lines.proofs.inner.write_ends.Statement.{statement}
+use Rattle.plan_lines.proofs.inner.write_ends.Tie as tie
+
+abbrev Inv-loop : tie.InvT-loop
+Inv-loop ends out₀ k₀ out k = (k ≤ length ends) × (length out ≡ length out₀) × (out ≡ sets out₀ (placeOfEnd 0 - 1) (fields (take k ends)))
+
+abbrev μ-loop : tie.MeasureT-loop
+μ-loop ends out₀ k₀ out k = length ends - k
+
+loop-holds : tie.Need-loop-holds Inv-loop μ-loop
+loop-holds c = (omega arith, refl, refl)
+
+mul-write-field : tie.Need-mul-write-field Inv-loop μ-loop
+mul-write-field c = omega arith
+
+add-write-field : tie.Need-add-write-field Inv-loop μ-loop
+add-write-field c = omega arith
+
+mul-write-field-2 : tie.Need-mul-write-field-2 Inv-loop μ-loop
+mul-write-field-2 c = omega arith
+
+shared-slice-read-write-field : tie.Need-shared-slice-read-write-field Inv-loop μ-loop
+shared-slice-read-write-field c = omega arith
+
+write-field-requires : tie.Need-write-field-requires Inv-loop μ-loop
+write-field-requires c κs = (omega arith, omega arith)
+
+add-k : tie.Need-add-k Inv-loop μ-loop
+add-k c = omega arith
+
+loop-less : tie.Need-loop-less Inv-loop μ-loop
+loop-less c = omega arith
+
+loop-again : tie.Need-loop-again Inv-loop μ-loop
+loop-again c =
+    let l = c .before .before .before .before .before .before in
+    let g = l .before .before .before .args in (
+      omega arith,
+      c .before .before .write-field .kept .0 ∙ l .loop .inv .1,
+      c .before .before .write-field .ensures
+          ∙ ap (λ (t : List ℕ). sets t (placeOfEnd (l .loop .k) - 1) (comma ∷ digits width (getD (g .ends .now) (l .loop .k) 0))) (l .loop .inv .2)
+          ∙ write-ends-more (g .out .now) (g .ends .now) (l .loop .k) (omega arith),
+    )
+
+same-length : tie.Need-same-length Inv-loop μ-loop
+same-length c = c .before .loop .inv .1
+
+returns : tie.Need-returns Inv-loop μ-loop
+returns c =
+    let g = c .before .before .before .before .args in
+    let e : c .before .loop .k ≡ length (g .ends .now) = omega arith in
+    c .before .loop .inv .2 ∙ ap (λ (x : List ℕ). sets (g .out .now) (placeOfEnd 0 - 1) (fields x)) (ap (λ (j : ℕ). take j (g .ends .now)) e ∙ take-length (g .ends .now))
+
+pub write-ends-spec : {M : Type 1} → statement M
+write-ends-spec =
+    tie.close
+    (tie.spec
+    Inv-loop
+    μ-loop
+    loop-holds
+    mul-write-field
+    add-write-field
+    mul-write-field-2
+    shared-slice-read-write-field
+    write-field-requires
+    add-k
+    loop-less
+    loop-again
+    same-length
+    returns)

@@ -1,0 +1,127 @@
+-- The number of the first record that passes a test, for any test: it is that of a record that passes, and 0 only where none does; how a loop over a table
+-- finds it. Then the number of the run that encloses a part twice its unit or longer: there is such a run (`one-run`), so the number is not 0. By induction on
+-- the records. Assumes nothing.
+use mathlib.Core.Path.{_≡_, refl, sym, ap, _∙_, subst}
+use mathlib.Core.Logic.{_≢_}
+use mathlib.Core.Bool.{Bool, true, false, cond, _&&_}
+use mathlib.Core.List.{List, [], _∷_, _++_}
+use Prim.Native.Nat.{ℕ, zero, suc, _+_, _*_, _≤_, _<_}
+use native.Mathlib.Omega.{arith}
+use native.Mathlib.Numerals.{add-one}
+use lib.Dec.{T, leb, eqb, le→leb, eqb-refl, eqb·suc-zero}
+use lib.ListN.{length}
+use Rattle.laws.proofs.Tests.{and-intro}
+use Rattle.periods.specs.Period.{part, smallestPeriod}
+use Rattle.periods.proofs.Claims.{smallest-period-is}
+use Rattle.runs.specs.declared.Record.{Record}
+use Rattle.runs.specs.Run.{Entry}
+use Rattle.runs.specs.Table.{runsOf, recordAt, records}
+use Rattle.runs.specs.Number.{encloses?, firstNumber, runNumber}
+use Rattle.runs.proofs.Entries.{no-entry}
+use Rattle.runs.proofs.Listed.{runs-listed}
+use Rattle.runs.proofs.Records.{records-more, length-records, records-split}
+use Rattle.runs.proofs.InPlace.{one-run}
+
+next-suc : (i : ℕ) → cond (eqb (suc i) 0) 0 (suc (suc i)) ≡ suc (suc i)
+next-suc i = rw (eqb·suc-zero i) refl
+
+-- r is the entry with number i, and passes
+pub record Passes (t : Record → Bool) (rows : List Record) (i : ℕ) : Type 0 where
+  pub row : Record
+  pub entry : Entry rows i row
+  pub passed : T (t row)
+
+module _ (t : Record → Bool) where
+  pub first-nothing : firstNumber t [] ≡ 0
+  unfolding firstNumber
+  first-nothing = refl
+
+  -- what it means that none of more records passes
+  none-passes : (r : Record) (rs : List Record) → firstNumber t (r ∷ rs) ≡ 0 → (t r ≡ false) × (firstNumber t rs ≡ 0)
+  unfolding firstNumber
+  none-passes r rs e = go (t r) refl (firstNumber t rs) refl e
+    where
+      go : (b : Bool) → t r ≡ b → (m : ℕ) → firstNumber t rs ≡ m → cond b 1 (cond (eqb m 0) 0 (suc m)) ≡ 0 → (t r ≡ false) × (firstNumber t rs ≡ 0)
+      go true f m g e = absurd (omega arith)
+      go false f zero g e = (f, g)
+      go false f (suc m) g e = absurd (omega (arith, next-suc m))
+
+  -- CLAIM: the number is that of a record that passes
+  pub first-sound : (rows : List Record) (i : ℕ) → firstNumber t rows ≡ suc i → Passes t rows (suc i)
+  unfolding firstNumber
+  first-sound [] i e = absurd (omega arith)
+  first-sound (r ∷ rs) i e = go (λ j. first-sound rs j) (t r) refl e
+    where
+      later : (m : ℕ) → ((j : ℕ) → m ≡ suc j → Passes t rs (suc j)) → cond (eqb m 0) 0 (suc m) ≡ suc i → Passes t (r ∷ rs) (suc i)
+      later zero h x = absurd (omega arith)
+      later (suc m) h x =
+          let y : i ≡ suc m = omega (arith, next-suc m) in
+          rw y (let P = h m refl in record { row = P .row; entry = P .entry; passed = P .passed })
+
+      go : ((j : ℕ) → firstNumber t rs ≡ suc j → Passes t rs (suc j)) → (u : Bool) → t r ≡ u → cond u 1 (cond (eqb (firstNumber t rs) 0) 0 (suc (firstNumber t rs))) ≡ suc i
+          → Passes t (r ∷ rs) (suc i)
+      go ih true f x = let y : i ≡ 0 = omega arith in rw y record { row = r; entry = refl; passed = subst T (sym f) tt }
+      go ih false f x = later (firstNumber t rs) ih x
+
+  -- CLAIM: it is 0 only where none passes
+  pub first-none : (rows : List Record) → firstNumber t rows ≡ 0 → (i : ℕ) → Passes t rows i → ⊥
+  first-none [] e i P = no-entry i (P .row) (P .entry)
+  first-none (r ∷ rs) e i P = go (first-none rs) (none-passes r rs e) i (P .row) (P .entry) (P .passed)
+    where
+      go : (firstNumber t rs ≡ 0 → (j : ℕ) → Passes t rs j → ⊥) → (t r ≡ false) × (firstNumber t rs ≡ 0) → (i : ℕ) (s : Record) → Entry (r ∷ rs) i s → T (t s) → ⊥
+      go ih k zero s E p = E
+      go ih k (suc zero) s E p = subst T (k .0) (subst (λ (y : Record). T (t y)) (sym E) p)
+      go ih k (suc (suc i)) s E p = ih (k .1) (suc i) record { row = s; entry = E; passed = p }
+
+  pub first-at-most : (rows : List Record) → firstNumber t rows ≤ length rows
+  unfolding firstNumber
+  first-at-most [] = omega arith
+  first-at-most (r ∷ rs) = go (t r) (firstNumber t rs) (first-at-most rs)
+    where
+      go : (b : Bool) (i : ℕ) → i ≤ length rs → cond b 1 (cond (eqb i 0) 0 (suc i)) ≤ suc (length rs)
+      go true i h = omega arith
+      go false zero h = omega arith
+      go false (suc i) h = omega (arith, next-suc i)
+
+  -- ---- one record after the other
+
+  -- one more record that does not pass
+  first-not-yet : (rs : List Record) (r : Record) → firstNumber t rs ≡ 0 → t r ≡ false → firstNumber t (rs ++ (r ∷ [])) ≡ 0
+  unfolding firstNumber
+  first-not-yet [] r e h = rw h refl
+  first-not-yet (x ∷ xs) r e h = let k = none-passes x xs e in rw (k .0, first-not-yet xs r (k .1) h) refl
+
+  -- the first that passes
+  first-found : (rs : List Record) (r : Record) (more : List Record) → firstNumber t rs ≡ 0 → t r ≡ true → firstNumber t (rs ++ (r ∷ more)) ≡ suc (length rs)
+  unfolding firstNumber
+  first-found [] r more e h = rw h refl
+  first-found (x ∷ xs) r more e h = let k = none-passes x xs e in rw (k .0, first-found xs r more (k .1) h) (next-suc (length xs))
+
+  -- the same in a table
+  pub table-not-yet : (rows : List ℕ) (i : ℕ) → firstNumber t (records i rows) ≡ 0 → t (recordAt rows i) ≡ false → firstNumber t (records (i + 1) rows) ≡ 0
+  table-not-yet rows i e h = ap (firstNumber t) (records-more rows i) ∙ first-not-yet (records i rows) (recordAt rows i) e h
+
+  pub table-found : (rows : List ℕ) (i c : ℕ) → i < c → firstNumber t (records i rows) ≡ 0 → t (recordAt rows i) ≡ true → i + 1 ≡ firstNumber t (records c rows)
+  table-found rows i c l e h = go (records-split rows i c l)
+    where
+      go : (more : List Record) × (records c rows ≡ records i rows ++ (recordAt rows i ∷ more)) → i + 1 ≡ firstNumber t (records c rows)
+      go (more, k) =
+          add-one i ∙ ap suc (sym (length-records rows i)) ∙ sym (first-found (records i rows) (recordAt rows i) more e h) ∙ ap (firstNumber t) (sym k)
+
+-- ---- the run that encloses a part
+
+-- CLAIM: a part twice its unit or longer has a run's number
+pub run-numbered : (w : List ℕ) (i j : ℕ) → j ≤ length w → 0 < length (part w i j) → 2 * smallestPeriod (part w i j) ≤ length (part w i j) → runNumber w i j ≢ 0
+unfolding runNumber
+run-numbered w i j h some twice e =
+    let p = smallestPeriod (part w i j) in
+    let R = one-run w i j p h (smallest-period-is (part w i j) some) twice in
+    let E = runs-listed w .complete (R .first) (R .last) p (R .run) in
+    first-none (encloses? i j p) (runsOf w) e (E .0)
+    record {
+      row = record { first = R .first; last = R .last; period = p };
+      entry = E .1;
+      passed =
+          and-intro (leb (R .first) (i + 1)) (leb j (R .last) && eqb p p) (le→leb (R .first) (i + 1) (R .starts))
+          (and-intro (leb j (R .last)) (eqb p p) (le→leb j (R .last) (R .ends)) (eqb-refl p));
+    }

@@ -1,0 +1,148 @@
+-- Bytes stored one piece after another: what a writer has stored, and what is left to store. Storing past the end does nothing, so that the laws hold whether
+-- there is room or not. And how long the pieces can be. By induction on the lists. Assumes nothing.
+use mathlib.Core.Path.{_≡_, refl, sym, ap, ap₂, _∙_, subst}
+use mathlib.Core.Bool.{Bool, true, false, cond}
+use mathlib.Core.List.{List, [], _∷_, _++_}
+use Prim.Native.Nat.{ℕ, zero, suc, _+_, _-_, _*_, _/_, _≤_, _<_}
+use native.Mathlib.Omega.{arith}
+use native.Mathlib.Numerals.{add-one}
+use native.Mathlib.Nat.{add-zero}
+use borrow.Author.Tests.{lt-ltb, le-ltb}
+use lib.Dec.{ltb}
+use lib.ListN.{length, getD, set, take, drop, length-append, drop-of-length-le}
+use lib.Seq.{sets, length-sets, drop-cons, take-at}
+use Rattle.laws.proofs.Stores.{sets-append, sets-front, stored-nowhere}
+use Rattle.answers.specs.Outcome.{accepted, refused}
+use Rattle.decimals.specs.Decimal.{comma, lineEnd, digits, digitCount, plain}
+use Rattle.decimals.proofs.Claims.{digits-length}
+use Rattle.writers.specs.Line.{printedOutcome, printedTable, fieldsOf, line}
+
+-- ---- stored, and left to store
+
+-- t with the bytes xs from place a on is u, and the place after them is b
+pub record Stored (t : List ℕ) (a : ℕ) (xs u : List ℕ) (b : ℕ) : Type 0 where
+  pub place : b ≡ a + length xs
+  pub bytes : u ≡ sets t a xs
+
+-- to store xs in t from place a on, what is left is to store ys in u from place b on
+pub record Left (t : List ℕ) (a : ℕ) (xs u : List ℕ) (b : ℕ) (ys : List ℕ) : Type 0 where
+  pub place : b + length ys ≡ a + length xs
+  pub bytes : sets u b ys ≡ sets t a xs
+
+-- what a writer ensures
+pub stored : (t : List ℕ) (a : ℕ) (xs u : List ℕ) (b : ℕ) → (b ≡ a + length xs) × (u ≡ sets t a xs) → Stored t a xs u b
+stored t a xs u b e = record { place = e .0; bytes = e .1 }
+
+pub ensured : {t : List ℕ} {a : ℕ} {xs u : List ℕ} {b : ℕ} → Stored t a xs u b → (b ≡ a + length xs) × (u ≡ sets t a xs)
+ensured S = (S .place, S .bytes)
+
+pub stored-length : {t : List ℕ} {a : ℕ} {xs u : List ℕ} {b : ℕ} → Stored t a xs u b → length u ≡ length t
+stored-length {t} {a} {xs} S = ap length (S .bytes) ∙ length-sets t a xs
+
+pub stored-as : {t : List ℕ} {a : ℕ} {xs u : List ℕ} {b : ℕ} (ys : List ℕ) → xs ≡ ys → Stored t a xs u b → Stored t a ys u b
+stored-as {t} {a} {xs} {u} {b} ys e S = subst (λ (l : List ℕ). Stored t a l u b) e S
+
+pub left-all : (t : List ℕ) (a : ℕ) (xs ys : List ℕ) → xs ≡ ys → Left t a xs t a ys
+left-all t a xs ys e = record { place = ap (λ (l : List ℕ). a + length l) (sym e); bytes = ap (sets t a) (sym e) }
+
+module _ {t : List ℕ} {a : ℕ} {xs u : List ℕ} {b : ℕ} where
+  -- the same, written out otherwise
+  pub left-as : {ys : List ℕ} (zs : List ℕ) → ys ≡ zs → Left t a xs u b ys → Left t a xs u b zs
+  left-as {ys} zs e L = subst (Left t a xs u b) e L
+
+  -- a piece is stored
+  pub left-less : {ys v : List ℕ} {c : ℕ} (zs : List ℕ) → Left t a xs u b (ys ++ zs) → Stored u b ys v c → Left t a xs v c zs
+  left-less {ys} {v} {c} zs L S = record {
+    place = omega (arith, L .place, S .place, length-append ys zs);
+    bytes = rw (S .place, S .bytes) (sym (sets-append u b ys zs)) ∙ L .bytes;
+  }
+
+  -- nothing is left
+  pub left-none : Left t a xs u b [] → Stored t a xs u b
+  left-none L = record { place = omega (arith, L .place); bytes = L .bytes }
+
+  -- the last piece is stored
+  pub left-last : {ys v : List ℕ} {c : ℕ} → Left t a xs u b ys → Stored u b ys v c → Stored t a xs v c
+  left-last {ys} L S = record { place = omega (arith, L .place, S .place); bytes = S .bytes ∙ L .bytes }
+
+pub stored-none : (t : List ℕ) (a : ℕ) → Stored t a [] t a
+stored-none t a = record { place = sym (add-zero a); bytes = refl }
+
+pub stored-more : {t : List ℕ} {a : ℕ} {xs u : List ℕ} {b : ℕ} {ys v : List ℕ} {c : ℕ} → Stored t a xs u b → Stored u b ys v c → Stored t a (xs ++ ys) v c
+stored-more {t} {a} {xs} {u} {b} {ys} S R = left-last (left-less ys (left-all t a (xs ++ ys) (xs ++ ys) refl) S) R
+
+-- ---- counted first in no places, and then written where there is room
+
+module _ (s t e : List ℕ) (size : ℕ) (S : Stored [] 0 s e size) where
+  counted : size ≡ length s
+  counted = omega (arith, S .place)
+
+  as-it-was : e ++ t ≡ t
+  as-it-was = stored-nowhere t e s 0 (S .bytes)
+
+  pub printed-few : length (e ++ t) < size → (refused 7 0 ≡ printedOutcome s (length t)) × (e ++ t ≡ printedTable s t)
+  printed-few h =
+      let k : length t < length s = omega (arith, ap length as-it-was, counted) in
+      rw (lt-ltb (length t) (length s) k) (refl, as-it-was)
+
+  pub printed-all : (u : List ℕ) (b : ℕ) → size ≤ length (e ++ t) → Stored (e ++ t) 0 s u b
+      → (accepted (size ∷ []) ≡ printedOutcome s (length t)) × (u ≡ printedTable s t)
+  printed-all u b h R =
+      let k : length s ≤ length t = omega (arith, ap length as-it-was, counted) in
+      rw (le-ltb (length t) (length s) k) (ap (λ (n : ℕ). accepted (n ∷ [])) counted, R .bytes ∙ ap (λ (l : List ℕ). sets l 0 s) as-it-was ∙ sets-front t s k)
+
+-- ---- bytes
+
+-- one byte of a text
+pub byte-left : (u s : List ℕ) (at i : ℕ) → i < length s → sets u (at + i) (drop i s) ≡ sets (set u (at + i) (getD s i 0)) (at + (i + 1)) (drop (i + 1) s)
+byte-left u s at i h =
+    let e : suc (at + i) ≡ at + (i + 1) = omega arith in
+    ap (sets u (at + i)) (drop-cons s i 0 h)
+    ∙ ap₂ (λ (p q : ℕ). sets (set u (at + i) (getD s i 0)) p (drop q s)) e (sym (add-one i))
+
+pub bytes-done : (u s : List ℕ) (at i : ℕ) → length s ≤ i → sets u (at + i) (drop i s) ≡ u
+bytes-done u s at i h = rw (drop-of-length-le s {i = i} h) refl
+
+-- ---- numbers
+
+pub count-most : (most x : ℕ) → digitCount most x ≤ suc most
+unfolding digitCount
+count-most zero x = omega arith
+count-most (suc most) x = go (ltb x 10) (count-most most (x / 10))
+  where
+    go : (b : Bool) → digitCount most (x / 10) ≤ suc most → cond b 1 (suc (digitCount most (x / 10))) ≤ suc (suc most)
+    go true h = omega arith
+    go false h = omega arith
+
+-- the digits that were written at the front of a table
+pub digits-front : (t d : List ℕ) (k x : ℕ) → k ≤ length t → d ≡ sets t 0 (digits k x) → take (k - 0) d ≡ digits k x
+digits-front t d k x h f =
+    let e : k - 0 ≡ k = omega arith in
+    rw (e, f, sets-front t (digits k x) (omega (arith, digits-length k x))) (take-at (digits k x) (drop (length (digits k x)) t) k (digits-length k x))
+
+pub plain-long : (x : ℕ) → length (plain x) ≤ 10
+plain-long x = omega (arith, digits-length (digitCount 9 x) x, count-most 9 x)
+
+pub fields-none : fieldsOf [] ≡ []
+unfolding fieldsOf
+fields-none = refl
+
+pub fields-more : (xs : List ℕ) (i : ℕ) → i < length xs → fieldsOf (drop i xs) ≡ (comma ∷ plain (getD xs i 0)) ++ fieldsOf (drop (i + 1) xs)
+unfolding fieldsOf
+fields-more xs i h = ap fieldsOf (drop-cons xs i 0 h) ∙ rw (add-one i) refl
+
+pub fields-done : (xs : List ℕ) (i : ℕ) → length xs ≤ i → fieldsOf (drop i xs) ≡ []
+fields-done xs i h = ap fieldsOf (drop-of-length-le xs {i = i} h) ∙ fields-none
+
+pub fields-long : (xs : List ℕ) → length (fieldsOf xs) ≤ 11 * length xs
+unfolding fieldsOf
+fields-long [] = omega arith
+fields-long (x ∷ xs) = omega (arith, plain-long x, fields-long xs, length-append (plain x) (fieldsOf xs))
+
+pub line-is : (name xs : List ℕ) → line name xs ≡ name ++ (fieldsOf xs ++ (lineEnd ∷ []))
+unfolding line
+line-is name xs = refl
+
+pub line-long : (name xs : List ℕ) → length (line name xs) ≤ length name + 11 * length xs + 1
+line-long name xs =
+    omega (arith, ap length (line-is name xs), fields-long xs, length-append name (fieldsOf xs ++ (lineEnd ∷ [])), length-append (fieldsOf xs) (lineEnd ∷ []))

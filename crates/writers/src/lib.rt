@@ -1,0 +1,2 @@
+// Bytes, numbers and lines written into lent bytes.
+pub mod inner;
