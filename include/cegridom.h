@@ -6,22 +6,25 @@
  * unit; a run is a block that cannot be lengthened. A split (factorization) is a series of blocks
  * that join up to the word, given by the positions of their ends.
  *
- * Every call returns 0 for accepted, else the number of the refusal: of those that the call's
- * comment lists, the first that is met, in the order listed. *index is the number of the end from 1
- * after refusals 3 and 4, else 0. The other values are set after an accepted answer, and are 0
- * after a refusal.
+ * Every call about words or plans returns 0 for accepted, else the number of the refusal: of those
+ * that the call's comment lists, the first that is met, in the order listed. *index is the number
+ * of the end from 1 after refusals 3 and 4, else 0. The other values are set after an accepted
+ * answer, and are 0 after a refusal.
  *
  * Tables. A slice is lent as a pointer and its count of elements; a slice of count 0 may be null.
  * An accepted answer changes only the first places that it needs of an output table; a refusal
  * changes none. The working table of cegridom_best_split is the exception, as its comment says.
- * Every other pointer must be valid, and no two may overlap unless the call only reads both.
+ * Every other pointer must be valid: those to the index and to the values may not be null, whether
+ * they are wanted or not. No two may overlap unless the call only reads both.
  *
  * Calls are reentrant: they keep no state, allocate nothing and call nothing back, so any number of
  * threads may call at once, with tables of their own. What a call costs is said in each comment, n
- * being the length of the word; where no stack is named, it is under 200 bytes.
+ * being the length of the word; where no stack is named, it is under 200 bytes. Stack figures are
+ * for a warm call: where memset is bound lazily, the first call of a process may take some 3 KiB
+ * more, since the dynamic linker looks memset up on the caller's stack.
  *
- * The functions are those of target/staticlib/libcegridom.a, for x86-64 Linux only, which
- * `rt staticlib cegridom` proves and writes; it needs nothing but the C library's memset. Nothing
+ * The functions are those of libcegridom.a, for x86-64 Linux only, which `rt staticlib cegridom`
+ * proves and writes to target/staticlib; it needs nothing but the C library's memset. Nothing
  * checks these declarations against the source of the library: tests/c compares what every call
  * gives.
  */
@@ -35,8 +38,11 @@
 extern "C" {
 #endif
 
+/* The version of this header, in numbers and as text; cegridom_version gives the archive's. */
 #define CEGRIDOM_VERSION_MAJOR 0
-#define CEGRIDOM_VERSION_MINOR 1
+#define CEGRIDOM_VERSION_MINOR 2
+#define CEGRIDOM_VERSION (1000 * CEGRIDOM_VERSION_MAJOR + CEGRIDOM_VERSION_MINOR)
+#define CEGRIDOM_VERSION_STRING "0.2"
 
 /* The longest word that is taken. */
 #define CEGRIDOM_LIMIT 4096
@@ -51,13 +57,17 @@ extern "C" {
 #define CEGRIDOM_RUN_PLACES(runs) (3 * (runs))
 /* The bytes of a plan line with k ends. */
 #define CEGRIDOM_PLAN_BYTES(k) (15 + 5 * (k))
+/* The most ends that a plan line of so many bytes has. CEGRIDOM_MOST_ENDS is not enough for reading
+   one, since the pieces of a plan may be of length 1. */
+#define CEGRIDOM_PLAN_ENDS(bytes) ((bytes) < 15 ? 0 : ((bytes) - 15) / 5)
 
 /* Choices of cegridom_best_split. */
 #define CEGRIDOM_FEWEST 1
 #define CEGRIDOM_MOST 2
 
-/* The results of a call. */
+/* The results of a call; cegridom_message gives the same words. */
 enum cegridom_result {
+    /* accepted */
     CEGRIDOM_ACCEPTED = 0,
     /* n above 4,096 */
     CEGRIDOM_TOO_LONG = 1,
@@ -84,6 +94,48 @@ enum cegridom_result {
     CEGRIDOM_NOT_PLAN = 11
 };
 
+/* The text of a result, for every number. */
+static inline const char *cegridom_message(uint32_t result) {
+    switch (result) {
+    case CEGRIDOM_ACCEPTED:
+        return "accepted";
+    case CEGRIDOM_TOO_LONG:
+        return "n above 4,096";
+    case CEGRIDOM_NO_SPLIT:
+        return "no split exists";
+    case CEGRIDOM_BAD_END:
+        return "an end not above the one before it (0 before the first), or above n";
+    case CEGRIDOM_NOT_BLOCK:
+        return "the piece up to this end is not a block; for a path, no run has that number, or "
+               "the run does not enclose the piece, or the piece is shorter than 2 x the run's "
+               "unit";
+    case CEGRIDOM_UNFINISHED:
+        return "the last end (0 if there are none) is not n";
+    case CEGRIDOM_BAD_POSITION:
+        return "first below 1, last above n or first above last; for nodes, a position outside 1 "
+               "to n";
+    case CEGRIDOM_TOO_FEW_PLACES:
+        return "fewer output places (for writing a plan, bytes) than the answer needs";
+    case CEGRIDOM_BAD_CHOICE:
+        return "a choice other than 1 or 2";
+    case CEGRIDOM_SHORT_TABLE:
+        return "a working table under 4 x (n+1) places";
+    case CEGRIDOM_ODD_PATH:
+        return "a path with an odd count of numbers";
+    case CEGRIDOM_NOT_PLAN:
+        return "bytes that are not one plan line, or whose count of ends differs from the one "
+               "stated";
+    default:
+        return "unknown result";
+    }
+}
+
+/*
+ * The version of the archive, to be compared with CEGRIDOM_VERSION: where they differ, this header
+ * is not the archive's and its other declarations may be wrong.
+ */
+uint32_t cegridom_version(void);
+
 /*
  * Part: of the symbols at the positions first to last, the unit, the turns (the length divided by
  * the unit, rounded down), the rest (the remainder), and 1 for a block or 0.
@@ -97,6 +149,9 @@ uint32_t cegridom_part(const uint8_t *word, size_t n, uint32_t first, uint32_t l
  * Runs: writes first, last and unit of each run to table, by first and then by unit, which is the
  * order of the run numbers from 1, and gives their count.
  * Reads word; changes the first 3 x count places of table. Refusals: 1, 7.
+ * 3 x n places suffice, since a word of n symbols, n above 0, has fewer than n runs. That is a
+ * theorem of the literature, which a later release is to prove; until then a call with too few
+ * places gives 7 and loses nothing.
  * Time at most quadratic in n; 17 KiB of stack.
  */
 uint32_t cegridom_runs(const uint8_t *word, size_t n, uint32_t *table, size_t places,
@@ -106,6 +161,7 @@ uint32_t cegridom_runs(const uint8_t *word, size_t n, uint32_t *table, size_t pl
  * Nodes: writes the numbers of the runs that have a white node at the position, rising, to table,
  * and gives their count. A run has one at each position from first + 2 x unit - 1 to last.
  * Reads word; changes the first count places of table. Refusals: 1, 6, 7.
+ * n places suffice, by the theorem that the comment of cegridom_runs names.
  * Time at most quadratic in n; 65 KiB of stack.
  */
 uint32_t cegridom_nodes(const uint8_t *word, size_t n, uint32_t position, uint32_t *table,
@@ -120,7 +176,7 @@ uint32_t cegridom_nodes(const uint8_t *word, size_t n, uint32_t position, uint32
  * 0 to n, CEGRIDOM_NONE where the prefix has no split, and 0 in the following 3 x (n+1); after an
  * answer and after refusals 2 and 7 alike. After 1, 8 and 9 it keeps its contents. Places past
  * 4 x (n+1) never change.
- * Time at most quadratic in n; 48 bytes of stack a block of the split, 97 KiB at most.
+ * Time at most quadratic in n; 192 bytes of stack and 48 a block of the split, 97 KiB at most.
  */
 uint32_t cegridom_best_split(const uint8_t *word, size_t n, uint32_t choice, uint32_t *ends,
                              size_t end_places, uint32_t *work, size_t work_places, uint32_t *size,
@@ -158,6 +214,8 @@ uint32_t cegridom_judge_path(const uint8_t *word, size_t n, const uint32_t *numb
  * Write a plan: writes the plan line of n and the ends to out, and gives its count of bytes. The
  * line is "plan", n, the number of ends and each end, in four digits each, parted by commas, then
  * byte 10. A line carries no symbols, so it is not asked whether the pieces are blocks.
+ * n is 32 bits wide, while a length is a size_t: 2^32 + 8 handed over is narrowed and taken for 8,
+ * without a warning, so compare a length with CEGRIDOM_LIMIT first.
  * Reads ends; changes the first bytes bytes of out. Refusals: 1; 3 for each end; 5; 7.
  * Time linear in the line.
  */
@@ -167,6 +225,7 @@ uint32_t cegridom_write_plan(uint32_t n, const uint32_t *ends, size_t end_count,
 /*
  * Read a plan: writes the ends of a plan line to table, and gives its n and the count of ends.
  * Reads line; changes the first count places of table. Refusals: 11; 1; 3 for each end; 5; 7.
+ * CEGRIDOM_PLAN_ENDS(length) places suffice, and CEGRIDOM_LIMIT for every line.
  * Time linear in the line.
  */
 uint32_t cegridom_read_plan(const uint8_t *line, size_t length, uint32_t *table, size_t places,

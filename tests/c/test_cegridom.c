@@ -60,6 +60,37 @@ static int begins(const uint32_t *places, const uint32_t *numbers, size_t count)
 /* A word of letters as pointer and length. */
 #define WORD(text) ((const uint8_t *)(text)), (sizeof(text) - 1)
 
+static void test_version(void) {
+    char text[32];
+    snprintf(text, sizeof text, "%d.%d", CEGRIDOM_VERSION_MAJOR, CEGRIDOM_VERSION_MINOR);
+    CHECK(strcmp(CEGRIDOM_VERSION_STRING, text) == 0);
+    CHECK(CEGRIDOM_VERSION == 1000 * CEGRIDOM_VERSION_MAJOR + CEGRIDOM_VERSION_MINOR);
+    CHECK(cegridom_version() == CEGRIDOM_VERSION);
+}
+
+static void test_message(void) {
+    static const char *const texts[] = {
+        "accepted",
+        "n above 4,096",
+        "no split exists",
+        "an end not above the one before it (0 before the first), or above n",
+        "the piece up to this end is not a block; for a path, no run has that number, or the run "
+        "does not enclose the piece, or the piece is shorter than 2 x the run's unit",
+        "the last end (0 if there are none) is not n",
+        "first below 1, last above n or first above last; for nodes, a position outside 1 to n",
+        "fewer output places (for writing a plan, bytes) than the answer needs",
+        "a choice other than 1 or 2",
+        "a working table under 4 x (n+1) places",
+        "a path with an odd count of numbers",
+        "bytes that are not one plan line, or whose count of ends differs from the one stated",
+        "unknown result",
+    };
+    for (uint32_t i = 0; i < sizeof texts / sizeof *texts; i++) {
+        CHECK(strcmp(cegridom_message(i), texts[i]) == 0);
+    }
+    CHECK(strcmp(cegridom_message(4294967295u), "unknown result") == 0);
+}
+
 static void test_part(void) {
     reset();
     CHECK(cegridom_part(WORD("ababa"), 1, 5, &a, &b, &c, &d, &index_) == CEGRIDOM_ACCEPTED);
@@ -388,22 +419,37 @@ static void test_read_plan(void) {
                                  &a, &b, &index_) == refused[i].result);
         CHECK(a == 0 && b == 0 && index_ == refused[i].index && untouched(table, 4));
     }
+    CHECK(CEGRIDOM_PLAN_ENDS(0) == 0 && CEGRIDOM_PLAN_ENDS(14) == 0 && CEGRIDOM_PLAN_ENDS(15) == 0);
+    CHECK(CEGRIDOM_PLAN_ENDS(19) == 0 && CEGRIDOM_PLAN_ENDS(20) == 1 && CEGRIDOM_PLAN_ENDS(25) == 2);
+    /* pieces of length 1 are more than a split of as many symbols has blocks */
+    fill(table, 5);
+    reset();
+    CHECK(cegridom_read_plan(WORD("plan,0004,0004,0001,0002,0003,0004\n"), table,
+                             CEGRIDOM_MOST_ENDS(4), &a, &b, &index_) == CEGRIDOM_TOO_FEW_PLACES);
+    CHECK(a == 0 && b == 0 && index_ == 0 && untouched(table, 5));
+    reset();
+    CHECK(cegridom_read_plan(WORD("plan,0004,0004,0001,0002,0003,0004\n"), table,
+                             CEGRIDOM_PLAN_ENDS(35), &a, &b, &index_) == 0);
+    CHECK(a == 4 && b == 4 && index_ == 0 && BEGINS(table, 1, 2, 3, 4));
     /* the longest line, written and read back */
-    static uint32_t ends[CEGRIDOM_LIMIT];
+    static uint32_t ends[CEGRIDOM_PLAN_ENDS(CEGRIDOM_PLAN_BYTES(CEGRIDOM_LIMIT))];
     for (uint32_t i = 0; i < CEGRIDOM_LIMIT; i++) {
         ends[i] = i + 1;
     }
     reset();
     CHECK(cegridom_write_plan(CEGRIDOM_LIMIT, ends, CEGRIDOM_LIMIT, out, sizeof out, &a, &index_) == 0);
     CHECK(a == CEGRIDOM_PLAN_BYTES(CEGRIDOM_LIMIT) && index_ == 0);
-    CHECK(cegridom_read_plan(out, a, table, CEGRIDOM_LIMIT, &b, &c, &index_) == 0);
+    CHECK(cegridom_read_plan(out, a, table, CEGRIDOM_PLAN_ENDS(a) - 1, &b, &c, &index_) ==
+          CEGRIDOM_TOO_FEW_PLACES);
+    CHECK(cegridom_read_plan(out, a, table, CEGRIDOM_PLAN_ENDS(a), &b, &c, &index_) == 0);
     CHECK(b == CEGRIDOM_LIMIT && c == CEGRIDOM_LIMIT && index_ == 0);
     CHECK(memcmp(table, ends, sizeof ends) == 0);
 }
 
 int main(void) {
     memset(longest, 'a', sizeof longest);
-    CHECK(CEGRIDOM_VERSION_MAJOR == 0 && CEGRIDOM_VERSION_MINOR == 1);
+    test_version();
+    test_message();
     test_part();
     test_runs();
     test_nodes();
@@ -414,7 +460,7 @@ int main(void) {
     test_write_plan();
     test_read_plan();
     if (failed > 0) {
-        printf("C interface: %u checks failed\n", failed);
+        fprintf(stderr, "C interface: %u checks failed\n", failed);
         return 1;
     }
     printf("C interface: %u checks passed\n", passed);
