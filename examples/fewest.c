@@ -22,6 +22,11 @@ int main(void) {
     while (n < sizeof word && (symbol = getchar()) != EOF && symbol != '\n') {
         word[n++] = (uint8_t)symbol;
     }
+    if (ferror(stdin)) {
+        /* what was read may be half a line */
+        fputs("fewest: the input could not be read\n", stderr);
+        return 1;
+    }
     uint32_t size, index;
     uint32_t result = cegridom_best_split(word, n, CEGRIDOM_FEWEST, ends, sizeof ends / sizeof *ends,
                                           work, sizeof work / sizeof *work, &size, &index);
@@ -30,7 +35,7 @@ int main(void) {
         return 0;
     }
     if (result != CEGRIDOM_ACCEPTED) {
-        fprintf(stderr, "refused: %" PRIu32 "\n", result);
+        fprintf(stderr, "fewest: refused: %s\n", cegridom_message(result));
         return 1;
     }
     printf("%" PRIu32 "\n", size);
