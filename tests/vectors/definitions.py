@@ -1,0 +1,393 @@
+#!/usr/bin/env python3
+"""Document 01's definitions and calls, as plainly as the document states them, for the expected
+outputs of the test programs. Nothing is taken from the library or from its runs.
+
+A word (sequence) is a bytes object, a joint m stands after pass number m, and the part between the
+joints a and b is word[a:b]. A call takes what it is lent and gives its outcome, and then each lent
+table as it is afterwards; a lent table is a list, and is not changed in place.
+
+Run by itself, this file compares the definitions with one another and with the document's examples.
+"""
+import re
+from functools import lru_cache
+from itertools import combinations, product
+
+LIMIT = 4096
+NONE = 4294967295
+FEWEST, MOST = 1, 2
+
+
+def accepted(*values):
+    return ("accepted", *values)
+
+
+def refused(number, index=0):
+    return ("refused", number, index)
+
+
+def is_refused(outcome):
+    return outcome[0] == "refused"
+
+
+def written(values, table):
+    """Only the first places that an answer needs change."""
+    return values + table[len(values):]
+
+
+# ---- units, blocks, runs, nodes
+
+
+def unit(part):
+    """The smallest p at which no pair of passes p apart differs, of a part that is not empty. The
+    left sides of all such pairs, in order, are all but the last p passes; the right sides are all
+    but the first p."""
+    p = 1
+    while part[: len(part) - p] != part[p:]:
+        p += 1
+    return p
+
+
+def is_block(part):
+    return len(part) >= 2 * unit(part)
+
+
+@lru_cache(maxsize=None)
+def runs_of(word):
+    """(first, last, unit) of each run, in the order of the run numbers: every first and last is
+    tried, and the two conditions are those of the document, with position 1 at place 0."""
+    n = len(word)
+    found = []
+    for first in range(1, n + 1):
+        for last in range(first, n + 1):
+            part = word[first - 1 : last]
+            p = unit(part)
+            if (
+                is_block(part)
+                and (first == 1 or word[first - 2] != word[first + p - 2])
+                and (last == n or word[last] != word[last - p])
+            ):
+                found.append((first, last, p))
+    return sorted(found, key=lambda run: (run[0], run[2]))
+
+
+def nodes_at(word, position):
+    """The numbers of the runs with a white node at a position, rising."""
+    return [
+        number
+        for number, (first, last, p) in enumerate(runs_of(word), 1)
+        if first + 2 * p - 1 <= position <= last
+    ]
+
+
+# ---- splits
+
+
+@lru_cache(maxsize=1)
+def blocks_up_to(word):
+    """For each joint m and each joint j below it: 1 where the part between them is a block, or 0."""
+    return [bytes(is_block(word[j:m]) for j in range(m)) for m in range(len(word) + 1)]
+
+
+@lru_cache(maxsize=2)
+def best_table(word, choice):
+    """The best size of each leading length, NONE where it has no split, and the joint before the last
+    block of the split that wins the tie: the lowest joint, so the longest last block, of those that
+    give the best size. The block before it is the last one of the leading part up to that joint."""
+    sizes, befores = [0], [0]
+    for m in range(1, len(word) + 1):
+        best, before = NONE, 0
+        for j, block in enumerate(blocks_up_to(word)[m]):
+            if block and sizes[j] != NONE:
+                size = sizes[j] + 1
+                if best == NONE or (size < best if choice == FEWEST else size > best):
+                    best, before = size, j
+        sizes.append(best)
+        befores.append(before)
+    return sizes, befores
+
+
+def best_ends(word, choice):
+    _, befores = best_table(word, choice)
+    ends = []
+    joint = len(word)
+    while joint > 0:
+        ends.append(joint)
+        joint = befores[joint]
+    return ends[::-1]
+
+
+def verdict(n, ends, fits):
+    """For each end in turn 3, 4; then 5; else the number of blocks. The test is told the number of
+    the block and the joints that it lies between."""
+    before = 0
+    for index, end in enumerate(ends, 1):
+        if end <= before or end > n:
+            return refused(3, index)
+        if not fits(index, before, end):
+            return refused(4, index)
+        before = end
+    if before != n:
+        return refused(5)
+    return accepted(len(ends))
+
+
+# ---- the calls, each with its refusals in the document's order
+
+
+def part(word, first, last):
+    """Part: 1, 6. Gives unit, turns, rest, and 1 for a block or 0."""
+    if len(word) > LIMIT:
+        return refused(1)
+    if first < 1 or last > len(word) or first > last:
+        return refused(6)
+    piece = word[first - 1 : last]
+    p = unit(piece)
+    return accepted(p, len(piece) // p, len(piece) % p, int(is_block(piece)))
+
+
+def runs(word, table):
+    """Runs: 1, 7."""
+    if len(word) > LIMIT:
+        return refused(1), table
+    numbers = [number for run in runs_of(word) for number in run]
+    if len(table) < len(numbers):
+        return refused(7), table
+    return accepted(len(runs_of(word))), written(numbers, table)
+
+
+def nodes(word, position, table):
+    """Nodes: 1, 6, 7."""
+    if len(word) > LIMIT:
+        return refused(1), table
+    if position < 1 or position > len(word):
+        return refused(6), table
+    numbers = nodes_at(word, position)
+    if len(table) < len(numbers):
+        return refused(7), table
+    return accepted(len(numbers)), written(numbers, table)
+
+
+def best_split(word, choice, ends, work):
+    """Best split: 1, 8, 9, 2, 7. The working table is the same after an answer, 2 and 7."""
+    n = len(word)
+    if n > LIMIT:
+        return refused(1), ends, work
+    if choice not in (FEWEST, MOST):
+        return refused(8), ends, work
+    if len(work) < 4 * (n + 1):
+        return refused(9), ends, work
+    sizes, _ = best_table(word, choice)
+    work = written(sizes + [0] * (3 * (n + 1)), work)
+    if sizes[n] == NONE:
+        return refused(2), ends, work
+    if len(ends) < sizes[n]:
+        return refused(7), ends, work
+    return accepted(sizes[n]), written(best_ends(word, choice), ends), work
+
+
+def judge_split(word, ends):
+    """Judge a split: 1; then for each end in turn 3, 4; then 5."""
+    if len(word) > LIMIT:
+        return refused(1)
+    return verdict(len(word), ends, lambda index, a, b: is_block(word[a:b]))
+
+
+def path_of_split(word, ends, table):
+    """Path of a split: the same, then 7. Gives the number of the run that encloses each block and has
+    its unit."""
+    outcome = judge_split(word, ends)
+    if is_refused(outcome):
+        return outcome, table
+    if len(table) < len(ends):
+        return refused(7), table
+    numbers = []
+    for a, b in zip([0] + ends, ends):
+        (number,) = [
+            number
+            for number, (first, last, p) in enumerate(runs_of(word), 1)
+            if first <= a + 1 and b <= last and p == unit(word[a:b])
+        ]
+        numbers.append(number)
+    return outcome, written(numbers, table)
+
+
+def judge_path(word, numbers):
+    """Judge a path: 1, 10, then as for a split. 4 is: no run has that number, or the run does not
+    enclose the piece, or the piece is shorter than 2 × the run's unit."""
+    if len(word) > LIMIT:
+        return refused(1)
+    if len(numbers) % 2 == 1:
+        return refused(10)
+
+    def fits(index, a, b):
+        number = numbers[2 * index - 2]
+        if not 1 <= number <= len(runs_of(word)):
+            return False
+        first, last, p = runs_of(word)[number - 1]
+        return first <= a + 1 and b <= last and b - a >= 2 * p
+
+    return verdict(len(word), numbers[1::2], fits)
+
+
+# ---- plans
+
+PLAN = re.compile(rb"plan,([0-9]{4}),([0-9]{4})((?:,[0-9]{4})*)\n")
+
+
+def plan_line(n, ends):
+    return b"plan,%04d,%04d%s\n" % (n, len(ends), b"".join(b",%04d" % end for end in ends))
+
+
+def plausible(n, ends):
+    """1; 3 for each end; 5. A plan line carries no passes, so every piece will do."""
+    if n > LIMIT:
+        return refused(1)
+    return verdict(n, ends, lambda index, a, b: True)
+
+
+def write_plan(n, ends, out):
+    """Write a plan: 1; 3 for each end; 5; 7. Gives the count of bytes."""
+    outcome = plausible(n, ends)
+    if is_refused(outcome):
+        return outcome, out
+    line = list(plan_line(n, ends))
+    if len(out) < len(line):
+        return refused(7), out
+    return accepted(len(line)), written(line, out)
+
+
+def read_plan(line, table):
+    """Read a plan: 11; then as for writing. Gives n and the count of ends."""
+    form = PLAN.fullmatch(line)
+    if not form:
+        return refused(11), table
+    n, count = int(form[1]), int(form[2])
+    ends = [int(end) for end in form[3].split(b",")[1:]]
+    if count != len(ends):
+        return refused(11), table
+    outcome = plausible(n, ends)
+    if is_refused(outcome):
+        return outcome, table
+    if len(table) < len(ends):
+        return refused(7), table
+    return accepted(n, count), written(ends, table)
+
+
+# ---- the definitions compared with one another, and with the document's examples
+
+
+@lru_cache(maxsize=None)
+def splits_of(word):
+    """Every split: every choice of joints inside the word is tried, and the last end is n."""
+    n = len(word)
+    last = [n] if n else []
+    return [
+        list(inner) + last
+        for count in range(max(n, 1))
+        for inner in combinations(range(1, n), count)
+        if not is_refused(judge_split(word, list(inner) + last))
+    ]
+
+
+def best_of(splits, choice):
+    """The size and the ends of the split that wins, of a list of them; NONE and no ends of none."""
+    if not splits:
+        return NONE, []
+    size = (min if choice == FEWEST else max)(map(len, splits))
+
+    def block_lengths_from_the_end(ends):
+        return [b - a for a, b in zip([0] + ends, ends)][::-1]
+
+    return size, max((s for s in splits if len(s) == size), key=block_lengths_from_the_end)
+
+
+def paths_of(word, joint=0):
+    """Every path of the graph from a joint to joint n, as the run number and the joint of each drop."""
+    if joint == len(word):
+        yield []
+    for number, (_, _, p) in enumerate(runs_of(word), 1):
+        position = joint + 2 * p  # where the diagonal leads, if there is a white node
+        while number in nodes_at(word, position):
+            for rest in paths_of(word, position):
+                yield [number, position] + rest
+            position += 1  # the flat edge
+
+
+def judged_paths_of(word, path=()):
+    """Every path that judge a path accepts. One that is refused with 5 may be gone on with."""
+    outcome = judge_path(word, list(path))
+    if not is_refused(outcome):
+        yield list(path)
+    elif outcome == refused(5):
+        for number in range(len(runs_of(word)) + 2):
+            for end in range(len(word) + 2):
+                yield from judged_paths_of(word, (*path, number, end))
+
+
+EXAMPLES = [  # sequence, ends of the fewest, ends of the most; None is refusal 2
+    (b"", [], []),
+    (b"a", None, None),
+    (b"ab", None, None),
+    (b"aa", [2], [2]),
+    (b"aaaa", [4], [2, 4]),
+    (b"aaaaa", [5], [2, 5]),
+    (b"ababa", [5], [5]),
+    (b"baa", None, None),
+    (b"aabb", [2, 4], [2, 4]),
+    (b"aabaabaa", [8], [2, 8]),
+    (b"abaabaababaabaabababa", [16, 21], [6, 10, 16, 21]),
+    (b"aabaabaacbbcbbcbb", [8, 17], [2, 8, 15, 17]),
+]
+
+JUDGED = [  # on aabaabaa: ends, and the document's refusal
+    ([3, 8], refused(4, 1)),
+    ([2, 2, 8], refused(3, 2)),
+    ([2, 9], refused(3, 2)),
+    ([], refused(5)),
+]
+
+
+def expect(holds, *what):
+    if not holds:
+        raise SystemExit("definitions: not so: " + " ".join(map(str, what)))
+
+
+def compare_with_enumeration(word):
+    n = len(word)
+    for choice in FEWEST, MOST:
+        leading = [best_of(splits_of(word[:m]), choice) for m in range(n + 1)]
+        sizes, _ = best_table(word, choice)
+        expect(sizes == [size for size, _ in leading], "sizes of", word, choice)
+        if sizes[n] != NONE:
+            expect(best_ends(word, choice) == leading[n][1], "ends of", word, choice)
+    paths = sorted(paths_of(word))
+    expect(sorted(path[1::2] for path in paths) == sorted(splits_of(word)), "one path a split of", word)
+    expect(paths == sorted(judged_paths_of(word)), "paths that are accepted of", word)
+    for path in paths:
+        _, numbers = path_of_split(word, path[1::2], [0] * (len(path) // 2))
+        expect(numbers == path[0::2], "path of", word, path[1::2])
+
+
+def compare_with_document():
+    for word, *both in EXAMPLES:
+        for choice, ends in zip((FEWEST, MOST), both):
+            outcome, table, _ = best_split(word, choice, [7] * 9, [7] * 100)
+            expected = refused(2) if ends is None else accepted(len(ends))
+            expect(outcome == expected, "outcome of", word, choice)
+            expect(table == written(ends or [], [7] * 9), "ends of", word, choice)
+    for ends, outcome in JUDGED:
+        expect(judge_split(b"aabaabaa", ends) == outcome, "judged", ends)
+    expect(part(b"ababa", 1, 5) == accepted(2, 2, 1, 1), "part of ababa")
+    expect(runs_of(b"aabaabaa") == [(1, 2, 1), (1, 8, 3), (4, 5, 1), (7, 8, 1)], "runs of aabaabaa")
+
+
+def main():
+    compare_with_document()
+    words = [bytes(letters) for n in range(9) for letters in product(b"ab", repeat=n)]
+    for word in words:
+        compare_with_enumeration(word)
+    print(f"definitions: {len(words)} words compared with the enumeration of their splits and paths")
+
+
+if __name__ == "__main__":
+    main()

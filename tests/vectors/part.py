@@ -1,0 +1,74 @@
+#!/usr/bin/env python3
+"""The expected output of the program vectors_part: the part call, and the units of the leading parts
+of some words. To make it again:
+
+    tests/vectors/part.py > crates/vectors_part/stdout
+"""
+from definitions import is_refused, part, unit
+
+LONG = "abaabaababaabaabababa"
+EQUAL, EQUAL_AND_ONE = "4096 equal", "4097 equal"
+
+WORDS = {EQUAL: b"a" * 4096, EQUAL_AND_ONE: b"a" * 4097}
+
+PARTS = [  # a word of letters or a name of WORDS, first, last
+    # the sequences of document 01, whole, and some of their parts
+    ("a", 1, 1),
+    ("ab", 1, 2),
+    ("aa", 1, 2),
+    ("aaaa", 1, 4),
+    ("aaaaa", 1, 5),
+    ("ababa", 1, 5),
+    ("baa", 1, 3),
+    ("baa", 2, 3),
+    ("aabb", 1, 4),
+    ("aabaabaa", 1, 8),
+    ("aabaabaa", 3, 8),
+    ("aabaabaa", 2, 6),
+    (LONG, 1, 16),
+    (LONG, 1, 19),
+    (LONG, 17, 21),
+    ("aabaabaacbbcbbcbb", 9, 17),
+    # refusal 6, at each bound
+    ("", 1, 0),
+    ("", 1, 1),
+    ("ababa", 0, 5),
+    ("ababa", 1, 6),
+    ("ababa", 4, 3),
+    ("ababa", 6, 6),
+    ("ababa", 4294967295, 4294967295),
+    # the limit: refusal 1 comes before 6
+    (EQUAL, 1, 4096),
+    (EQUAL, 1, 4097),
+    (EQUAL_AND_ONE, 1, 1),
+    (EQUAL_AND_ONE, 0, 0),
+]
+
+PREFIXES = ["aabaabaa", "ababa", "aaaab", "abaababaab", ""]
+
+
+def show_part(name, first, last):
+    outcome = part(WORDS.get(name, name.encode()), first, last)
+    if is_refused(outcome):
+        fields = outcome
+    else:
+        _, *numbers, block = outcome
+        fields = (*numbers, "block" if block else "no block")
+    print("part", name, first, last, *fields, sep=",")
+
+
+def show_units(word):
+    """The unit of each leading part but the empty one, and the place after them, which keeps its 7."""
+    units = [unit(word.encode()[:m]) for m in range(1, len(word) + 1)]
+    print("units", word, *units, 7, sep=",")
+
+
+def main():
+    for case in PARTS:
+        show_part(*case)
+    for word in PREFIXES:
+        show_units(word)
+
+
+if __name__ == "__main__":
+    main()
