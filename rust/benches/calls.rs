@@ -1,6 +1,6 @@
 //! Times every call beside a plain Rust twin of the same algorithm, in one run, and prints the
-//! result as a Markdown table: `cargo run --release --offline --example bench`. With a word after
-//! `--`, only the calls whose names have it.
+//! result as a Markdown table: `cargo bench --offline`. With a word after `--`, only the calls whose
+//! names have it.
 //!
 //! Buffers are allocated once and not cleared between calls. Each figure is processor time, the
 //! least of several batches, those of the library and of the twin taking turns.
@@ -380,7 +380,9 @@ fn main() {
     println!("|---|---|---|--:|--:|--:|--:|--:|--:|--:|");
     let (mut worst_ratio, mut worst_growth, mut slowest_best) = (0f64, 0f64, 0f64);
     let mut misses = Vec::new();
-    let wanted = std::env::args().nth(1).unwrap_or_default();
+    // `cargo bench` adds `--bench`.
+    let mut arguments = std::env::args().skip(1);
+    let wanted = arguments.find(|a| !a.starts_with("--")).unwrap_or_default();
     for call in calls().iter().filter(|call| call.name.contains(&wanted)) {
         for (name, make) in FAMILIES {
             let mut times = Vec::new();
