@@ -1,22 +1,36 @@
 //! Times every call beside a plain Rust twin of the same algorithm, in one run, and prints the
-//! result as a Markdown table: `cargo bench --offline`. With a word after `--`, only the calls whose
-//! names have it.
+//! result as a Markdown table. In this folder's parent, after `rt staticlib cegridom` at the top of
+//! the repository:
+//!
+//! ```sh
+//! cargo bench --offline
+//! cargo bench --offline -- plan
+//! ```
+//!
+//! The second times only the calls whose names have that word. `cargo test --benches` compares the
+//! answers and times nothing.
 //!
 //! Buffers are allocated once and not cleared between calls. Each figure is processor time, the
 //! least of several batches, those of the library and of the twin taking turns.
 
 mod twin;
 #[path = "../tests/words/mod.rs"]
+#[allow(dead_code)]
 mod words;
 
-use cegridom::raw;
+use cegridom::{raw, Choice};
 use std::hint::black_box;
 use words::{fibonacci, last_differs, thue_morse};
 
 const LENGTHS: [usize; 4] = [512, 1024, 2048, 4096];
+const DOUBLINGS: f64 = 3.0;
 const BATCHES: usize = 11;
 /// A batch is as many calls as take at least this long.
 const BATCH_SECONDS: f64 = 0.004;
+/// What a call may take of its twin's time.
+const MOST_RATIO: f64 = 1.5;
+const MICRO: f64 = 1e6;
+const MILLI: f64 = 1e3;
 
 fn random(n: usize, symbols: u64) -> Vec<u8> {
     let mut state = 88_172_645_463_325_252u64;
@@ -57,9 +71,9 @@ struct Buffers {
 impl Buffers {
     fn new(n: usize) -> Buffers {
         Buffers {
-            table: vec![0; 3 * n],
-            work: vec![0; 4 * (n + 1)],
-            line: vec![0; 15 + 5 * n],
+            table: vec![0; raw::RUN_PLACES * n],
+            work: vec![0; cegridom::work_places(n)],
+            line: vec![0; cegridom::plan_bytes(n)],
         }
     }
 }
@@ -77,11 +91,11 @@ impl Input {
     /// The split with the most blocks, where there is one; else the whole word as one block.
     fn new(word: Vec<u8>) -> Input {
         let n = word.len() as u32;
-        let ends = cegridom::best_split(&word, cegridom::Choice::Largest).unwrap_or(vec![n]);
+        let ends = cegridom::best_split(&word, Choice::Most).unwrap_or(vec![n]);
         let runs = cegridom::path_of_split(&word, &ends).unwrap_or(vec![1]);
         let path = runs.iter().zip(&ends).flat_map(|(&r, &e)| [r, e]).collect();
         let plan_ends: Vec<u32> = (1..=n / 2).map(|k| 2 * k).collect();
-        let plan = cegridom::write_plan(n, &plan_ends).unwrap();
+        let plan = cegridom::write_plan(word.len(), &plan_ends).unwrap();
         Input {
             word,
             ends,
@@ -94,11 +108,12 @@ impl Input {
 
 type Answer = Result<Vec<u32>, (u32, u32)>;
 
-fn answer(result: u32, index: u32, values: &[u32]) -> Answer {
-    if result == 0 {
-        Ok(values.to_vec())
-    } else {
-        Err((result, index))
+/// The values that a call hands over by pointer, or its refusal.
+fn answer<const N: usize>(call: impl FnOnce(&mut [u32; N], &mut u32) -> u32) -> Answer {
+    let (mut values, mut index) = ([0; N], 0);
+    match call(&mut values, &mut index) {
+        0 => Ok(values.to_vec()),
+        number => Err((number, index)),
     }
 }
 
@@ -110,215 +125,164 @@ struct Call {
     twin: fn(&Input, &mut Buffers) -> Answer,
 }
 
-fn library_best(input: &Input, b: &mut Buffers, choice: u32) -> Answer {
-    let (w, mut size, mut index) = (&input.word, 0, 0);
-    let result = unsafe {
+// The pointers that the calls below hand over come from the vectors of the input and of the
+// buffers, with their own lengths, and from the values of `answer`; none overlaps another.
+
+fn library_best(input: &Input, b: &mut Buffers, choice: Choice) -> Answer {
+    let (w, e, t) = (&input.word, &mut b.table, &mut b.work);
+    answer(|[size], index| unsafe {
         raw::cegridom_best_split(
             w.as_ptr(),
             w.len(),
-            choice,
-            b.table.as_mut_ptr(),
-            b.table.len(),
-            b.work.as_mut_ptr(),
-            b.work.len(),
-            &mut size,
-            &mut index,
+            choice.number(),
+            e.as_mut_ptr(),
+            e.len(),
+            t.as_mut_ptr(),
+            t.len(),
+            size,
+            index,
         )
-    };
-    answer(result, index, &[size])
+    })
 }
 
-fn calls() -> Vec<Call> {
-    vec![
-        Call {
-            name: "part",
-            on_words: true,
-            library: |input, _| {
-                let (w, mut v, mut index) = (&input.word, [0; 4], 0);
-                let n = w.len();
-                let [unit, turns, rest, block] = &mut v;
-                let result = unsafe {
-                    raw::cegridom_part(
-                        w.as_ptr(),
-                        n,
-                        1,
-                        n as u32,
-                        unit,
-                        turns,
-                        rest,
-                        block,
-                        &mut index,
-                    )
-                };
-                answer(result, index, &v)
-            },
-            twin: |input, _| {
-                twin::part(&input.word, 1, input.word.len() as u32).map(|v| v.to_vec())
-            },
-        },
-        Call {
-            name: "runs",
-            on_words: true,
-            library: |input, b| {
-                let (w, mut count, mut index) = (&input.word, 0, 0);
-                let result = unsafe {
-                    raw::cegridom_runs(
-                        w.as_ptr(),
-                        w.len(),
-                        b.table.as_mut_ptr(),
-                        b.table.len(),
-                        &mut count,
-                        &mut index,
-                    )
-                };
-                answer(result, index, &[count])
-            },
-            twin: |input, b| twin::runs(&input.word, &mut b.table).map(|v| vec![v]),
-        },
-        Call {
-            name: "nodes, last position",
-            on_words: true,
-            library: |input, b| {
-                let (w, mut count, mut index) = (&input.word, 0, 0);
-                let result = unsafe {
-                    raw::cegridom_nodes(
-                        w.as_ptr(),
-                        w.len(),
-                        w.len() as u32,
-                        b.table.as_mut_ptr(),
-                        b.table.len(),
-                        &mut count,
-                        &mut index,
-                    )
-                };
-                answer(result, index, &[count])
-            },
-            twin: |input, b| {
-                twin::nodes(&input.word, input.word.len() as u32, &mut b.table).map(|v| vec![v])
-            },
-        },
-        Call {
-            name: "best split, fewest",
-            on_words: true,
-            library: |input, b| library_best(input, b, 1),
-            twin: |input, b| {
-                twin::best_split(&input.word, 1, &mut b.table, &mut b.work).map(|v| vec![v])
-            },
-        },
-        Call {
-            name: "best split, most",
-            on_words: true,
-            library: |input, b| library_best(input, b, 2),
-            twin: |input, b| {
-                twin::best_split(&input.word, 2, &mut b.table, &mut b.work).map(|v| vec![v])
-            },
-        },
-        Call {
-            name: "judge a split",
-            on_words: true,
-            library: |input, _| {
-                let (w, e, mut blocks, mut index) = (&input.word, &input.ends, 0, 0);
-                let result = unsafe {
-                    raw::cegridom_judge_split(
-                        w.as_ptr(),
-                        w.len(),
-                        e.as_ptr(),
-                        e.len(),
-                        &mut blocks,
-                        &mut index,
-                    )
-                };
-                answer(result, index, &[blocks])
-            },
-            twin: |input, _| twin::judge_split(&input.word, &input.ends).map(|v| vec![v]),
-        },
-        Call {
-            name: "path of a split",
-            on_words: true,
-            library: |input, b| {
-                let (w, e, mut blocks, mut index) = (&input.word, &input.ends, 0, 0);
-                let result = unsafe {
-                    raw::cegridom_path_of_split(
-                        w.as_ptr(),
-                        w.len(),
-                        e.as_ptr(),
-                        e.len(),
-                        b.table.as_mut_ptr(),
-                        b.table.len(),
-                        &mut blocks,
-                        &mut index,
-                    )
-                };
-                answer(result, index, &[blocks])
-            },
-            twin: |input, b| {
-                twin::path_of_split(&input.word, &input.ends, &mut b.table).map(|v| vec![v])
-            },
-        },
-        Call {
-            name: "judge a path",
-            on_words: true,
-            library: |input, _| {
-                let (w, p, mut blocks, mut index) = (&input.word, &input.path, 0, 0);
-                let result = unsafe {
-                    raw::cegridom_judge_path(
-                        w.as_ptr(),
-                        w.len(),
-                        p.as_ptr(),
-                        p.len(),
-                        &mut blocks,
-                        &mut index,
-                    )
-                };
-                answer(result, index, &[blocks])
-            },
-            twin: |input, _| twin::judge_path(&input.word, &input.path).map(|v| vec![v]),
-        },
-        Call {
-            name: "write a plan",
-            on_words: false,
-            library: |input, b| {
-                let (e, mut bytes, mut index) = (&input.plan_ends, 0, 0);
-                let result = unsafe {
-                    raw::cegridom_write_plan(
-                        input.word.len() as u32,
-                        e.as_ptr(),
-                        e.len(),
-                        b.line.as_mut_ptr(),
-                        b.line.len(),
-                        &mut bytes,
-                        &mut index,
-                    )
-                };
-                answer(result, index, &[bytes])
-            },
-            twin: |input, b| {
-                twin::write_plan(input.word.len() as u32, &input.plan_ends, &mut b.line)
-                    .map(|v| vec![v])
-            },
-        },
-        Call {
-            name: "read a plan",
-            on_words: false,
-            library: |input, b| {
-                let (s, mut n, mut count, mut index) = (&input.plan, 0, 0, 0);
-                let result = unsafe {
-                    raw::cegridom_read_plan(
-                        s.as_ptr(),
-                        s.len(),
-                        b.table.as_mut_ptr(),
-                        b.table.len(),
-                        &mut n,
-                        &mut count,
-                        &mut index,
-                    )
-                };
-                answer(result, index, &[n, count])
-            },
-            twin: |input, b| twin::read_plan(&input.plan, &mut b.table).map(|(n, k)| vec![n, k]),
-        },
-    ]
+fn twin_best(input: &Input, b: &mut Buffers, choice: Choice) -> Answer {
+    twin::best_split(&input.word, choice.number(), &mut b.table, &mut b.work).map(|v| vec![v])
 }
+
+static CALLS: [Call; 10] = [
+    Call {
+        name: "part",
+        on_words: true,
+        library: |input, _| {
+            let (w, n) = (input.word.as_ptr(), input.word.len());
+            answer(|[unit, turns, rest, block], index| unsafe {
+                raw::cegridom_part(w, n, 1, n as u32, unit, turns, rest, block, index)
+            })
+        },
+        twin: |input, _| twin::part(&input.word, 1, input.word.len() as u32).map(|v| v.to_vec()),
+    },
+    Call {
+        name: "runs",
+        on_words: true,
+        library: |input, b| {
+            let (w, t) = (&input.word, &mut b.table);
+            answer(|[count], index| unsafe {
+                raw::cegridom_runs(w.as_ptr(), w.len(), t.as_mut_ptr(), t.len(), count, index)
+            })
+        },
+        twin: |input, b| twin::runs(&input.word, &mut b.table).map(|v| vec![v]),
+    },
+    Call {
+        name: "nodes, last position",
+        on_words: true,
+        library: |input, b| {
+            let (w, n, t) = (input.word.as_ptr(), input.word.len(), &mut b.table);
+            answer(|[count], index| unsafe {
+                raw::cegridom_nodes(w, n, n as u32, t.as_mut_ptr(), t.len(), count, index)
+            })
+        },
+        twin: |input, b| {
+            twin::nodes(&input.word, input.word.len() as u32, &mut b.table).map(|v| vec![v])
+        },
+    },
+    Call {
+        name: "best split, fewest",
+        on_words: true,
+        library: |input, b| library_best(input, b, Choice::Fewest),
+        twin: |input, b| twin_best(input, b, Choice::Fewest),
+    },
+    Call {
+        name: "best split, most",
+        on_words: true,
+        library: |input, b| library_best(input, b, Choice::Most),
+        twin: |input, b| twin_best(input, b, Choice::Most),
+    },
+    Call {
+        name: "judge a split",
+        on_words: true,
+        library: |input, _| {
+            let (w, e) = (&input.word, &input.ends);
+            answer(|[blocks], index| unsafe {
+                raw::cegridom_judge_split(w.as_ptr(), w.len(), e.as_ptr(), e.len(), blocks, index)
+            })
+        },
+        twin: |input, _| twin::judge_split(&input.word, &input.ends).map(|v| vec![v]),
+    },
+    Call {
+        name: "path of a split",
+        on_words: true,
+        library: |input, b| {
+            let (w, e, t) = (&input.word, &input.ends, &mut b.table);
+            answer(|[blocks], index| unsafe {
+                raw::cegridom_path_of_split(
+                    w.as_ptr(),
+                    w.len(),
+                    e.as_ptr(),
+                    e.len(),
+                    t.as_mut_ptr(),
+                    t.len(),
+                    blocks,
+                    index,
+                )
+            })
+        },
+        twin: |input, b| {
+            twin::path_of_split(&input.word, &input.ends, &mut b.table).map(|v| vec![v])
+        },
+    },
+    Call {
+        name: "judge a path",
+        on_words: true,
+        library: |input, _| {
+            let (w, p) = (&input.word, &input.path);
+            answer(|[blocks], index| unsafe {
+                raw::cegridom_judge_path(w.as_ptr(), w.len(), p.as_ptr(), p.len(), blocks, index)
+            })
+        },
+        twin: |input, _| twin::judge_path(&input.word, &input.path).map(|v| vec![v]),
+    },
+    Call {
+        name: "write a plan",
+        on_words: false,
+        library: |input, b| {
+            let (n, e, out) = (input.word.len() as u32, &input.plan_ends, &mut b.line);
+            answer(|[bytes], index| unsafe {
+                raw::cegridom_write_plan(
+                    n,
+                    e.as_ptr(),
+                    e.len(),
+                    out.as_mut_ptr(),
+                    out.len(),
+                    bytes,
+                    index,
+                )
+            })
+        },
+        twin: |input, b| {
+            let n = input.word.len() as u32;
+            twin::write_plan(n, &input.plan_ends, &mut b.line).map(|v| vec![v])
+        },
+    },
+    Call {
+        name: "read a plan",
+        on_words: false,
+        library: |input, b| {
+            let (s, t) = (&input.plan, &mut b.table);
+            answer(|[n, count], index| unsafe {
+                raw::cegridom_read_plan(
+                    s.as_ptr(),
+                    s.len(),
+                    t.as_mut_ptr(),
+                    t.len(),
+                    n,
+                    count,
+                    index,
+                )
+            })
+        },
+        twin: |input, b| twin::read_plan(&input.plan, &mut b.table).map(|(n, k)| vec![n, k]),
+    },
+];
 
 /// The processor time of this thread, in seconds: what other programs take is not in it.
 fn processor_time() -> f64 {
@@ -355,13 +319,19 @@ fn batch(
     (processor_time() - start) / times as f64
 }
 
-/// The library's time, its twin's time, and what both answered.
+/// What the library and its twin both answer, with equal tables.
+fn agreed(call: &Call, input: &Input, ours: &mut Buffers, theirs: &mut Buffers) -> Answer {
+    let given = (call.library)(input, ours);
+    assert_eq!(given, (call.twin)(input, theirs), "{}", call.name);
+    assert_eq!(ours, theirs, "{}", call.name);
+    given
+}
+
+/// The library's time and its twin's, in seconds, and what both answered.
 fn measure(call: &Call, input: &Input) -> (f64, f64, Answer) {
     let n = input.word.len();
     let (mut ours, mut theirs) = (Buffers::new(n), Buffers::new(n));
-    let given = (call.library)(input, &mut ours);
-    assert_eq!(given, (call.twin)(input, &mut theirs), "{}", call.name);
-    assert_eq!(ours, theirs, "{}", call.name);
+    let given = agreed(call, input, &mut ours, &mut theirs);
     let once = batch(call.library, input, &mut ours, 1);
     let times = (BATCH_SECONDS / once).ceil().max(1.0) as usize;
     let (mut library, mut twin) = (f64::MAX, f64::MAX);
@@ -372,63 +342,122 @@ fn measure(call: &Call, input: &Input) -> (f64, f64, Answer) {
     (library, twin, given)
 }
 
-fn main() {
+/// One row of the table.
+struct Row {
+    call: &'static str,
+    word: &'static str,
+    /// The library's time at each length, in seconds.
+    times: [f64; LENGTHS.len()],
+    /// The twin's at the last.
+    twin: f64,
+    /// What both answered there.
+    given: Answer,
+}
+
+impl Row {
+    fn new(call: &'static Call, (word, make): Family) -> Row {
+        let mut row = Row {
+            call: call.name,
+            word: if call.on_words {
+                word
+            } else {
+                "every second end"
+            },
+            times: [0.0; LENGTHS.len()],
+            twin: 0.0,
+            given: Ok(vec![]),
+        };
+        for (time, n) in row.times.iter_mut().zip(LENGTHS) {
+            (*time, row.twin, row.given) = measure(call, &Input::new(make(n)));
+        }
+        row
+    }
+
+    fn longest(&self) -> f64 {
+        self.times[LENGTHS.len() - 1]
+    }
+
+    fn growth(&self) -> f64 {
+        (self.longest() / self.times[0]).powf(1.0 / DOUBLINGS)
+    }
+
+    fn ratio(&self) -> f64 {
+        self.longest() / self.twin
+    }
+
+    fn print(&self) {
+        let said = match self.given {
+            Ok(_) => "accepted".to_string(),
+            Err((number, _)) => format!("refused {number}"),
+        };
+        let times = self.times.map(|t| format!("{:.1}", t * MICRO)).join(" | ");
+        println!(
+            "| {} | {} | {said} | {times} | {:.2} | {:.1} | {:.2} |",
+            self.call,
+            self.word,
+            self.growth(),
+            self.twin * MICRO,
+            self.ratio()
+        );
+    }
+}
+
+/// The words that a call is tried on: one is enough where its time does not depend on them.
+fn families(call: &Call) -> &'static [Family] {
+    &FAMILIES[..if call.on_words { FAMILIES.len() } else { 1 }]
+}
+
+fn time(calls: impl Iterator<Item = &'static Call>) {
     println!("Time of one call in microseconds, by the length of the word; growth is the factor for each doubling, on average from 512 to 4,096 (4 is quadratic); ratio is the library's time over the twin's at 4,096.\n");
     println!(
         "| call | word | answer | 512 | 1,024 | 2,048 | 4,096 | growth | twin, 4,096 | ratio |"
     );
     println!("|---|---|---|--:|--:|--:|--:|--:|--:|--:|");
-    let (mut worst_ratio, mut worst_growth, mut slowest_best) = (0f64, 0f64, 0f64);
-    let mut misses = Vec::new();
-    // `cargo bench` adds `--bench`.
-    let mut arguments = std::env::args().skip(1);
-    let wanted = arguments.find(|a| !a.starts_with("--")).unwrap_or_default();
-    for call in calls().iter().filter(|call| call.name.contains(&wanted)) {
-        for (name, make) in FAMILIES {
-            let mut times = Vec::new();
-            let mut last = (0.0, Ok(vec![]));
-            for n in LENGTHS {
-                let input = Input::new(make(n));
-                let (library, twin, given) = measure(call, &input);
-                times.push(library);
-                last = (twin, given);
-            }
-            let (twin, given) = last;
-            let word = if call.on_words {
-                name
-            } else {
-                "every second end"
-            };
-            let said = match given {
-                Ok(_) => "accepted".to_string(),
-                Err((number, _)) => format!("refused {number}"),
-            };
-            let growth = (times[3] / times[0]).cbrt();
-            let ratio = times[3] / twin;
-            println!(
-                "| {} | {word} | {said} | {:.1} | {:.1} | {:.1} | {:.1} | {growth:.2} | {:.1} | {ratio:.2} |",
-                call.name,
-                times[0] * 1e6,
-                times[1] * 1e6,
-                times[2] * 1e6,
-                times[3] * 1e6,
-                twin * 1e6,
-            );
-            worst_ratio = worst_ratio.max(ratio);
-            worst_growth = worst_growth.max(growth);
-            if call.name.starts_with("best split") {
-                slowest_best = slowest_best.max(times[3]);
-            }
-            if ratio > 1.5 {
-                misses.push(format!("{}, {word}: ratio {ratio:.2}", call.name));
-            }
-            if !call.on_words {
-                break;
-            }
+    let mut rows = Vec::new();
+    for call in calls {
+        for &family in families(call) {
+            let row = Row::new(call, family);
+            row.print();
+            rows.push(row);
         }
     }
-    println!("\nWorst ratio {worst_ratio:.2}, worst growth {worst_growth:.2}; slowest best split of 4,096 symbols {:.1} ms.", slowest_best * 1e3);
-    for miss in misses {
-        println!("Over 1.5 times the twin: {miss}.");
+    let best_splits = rows.iter().filter(|row| row.call.starts_with("best split"));
+    println!(
+        "\nWorst ratio {:.2}, worst growth {:.2}; slowest best split of 4,096 symbols {:.1} ms.",
+        greatest(rows.iter().map(Row::ratio)),
+        greatest(rows.iter().map(Row::growth)),
+        greatest(best_splits.map(Row::longest)) * MILLI
+    );
+    for row in rows.iter().filter(|row| row.ratio() > MOST_RATIO) {
+        let (call, word, ratio) = (row.call, row.word, row.ratio());
+        println!("Over {MOST_RATIO} times the twin: {call}, {word}: ratio {ratio:.2}.");
+    }
+}
+
+fn greatest(figures: impl Iterator<Item = f64>) -> f64 {
+    figures.fold(0.0, f64::max)
+}
+
+/// Compares the answers at the least length.
+fn compare(calls: impl Iterator<Item = &'static Call>) {
+    let n = LENGTHS[0];
+    for call in calls {
+        for (_, make) in families(call) {
+            let (mut ours, mut theirs) = (Buffers::new(n), Buffers::new(n));
+            agreed(call, &Input::new(make(n)), &mut ours, &mut theirs).ok();
+        }
+    }
+}
+
+fn main() {
+    // `cargo bench` adds `--bench` to what is asked for; `cargo test` does not.
+    let arguments: Vec<String> = std::env::args().skip(1).collect();
+    let wanted = arguments.iter().find(|a| !a.starts_with("--"));
+    let wanted = wanted.map_or("", String::as_str);
+    let chosen = CALLS.iter().filter(|call| call.name.contains(wanted));
+    if arguments.iter().any(|a| a == "--bench") {
+        time(chosen);
+    } else {
+        compare(chosen);
     }
 }

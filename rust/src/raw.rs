@@ -1,18 +1,49 @@
-//! The exported functions as they are, for a caller that wants them without the wrappers.
+//! The exported functions as they are, over numbers, for a caller that wants them without the
+//! wrappers.
 //!
-//! A slice passes as a pointer and its count of elements. The result is 0 for accepted, else the
-//! refusal's number; `index` is that of refusals 3 and 4, else 0; the values are 0 after a refusal.
-//! Nothing checks these declarations against the source of the library.
+//! The declarations are those of `include/cegridom.h`; nothing checks them against the source of
+//! the library. A slice passes as a pointer and its count of elements. The result is 0 for
+//! accepted, else the refusal's number; `*index` is that of refusals 3 and 4, else 0; the other
+//! values are 0 after a refusal. [`Refusal::check`](crate::Refusal::check) turns result and index
+//! into an error. The refusals, the cost and the stack of a call are those of its wrapper.
 //!
 //! # Safety
 //!
 //! Every pointer is valid for what it points to, for the whole call; no two of them overlap unless
 //! both are `*const`. A pointer with count 0 may be anything.
+//!
+//! ```
+//! use cegridom::{raw, Refusal};
+//!
+//! let word = b"aabb";
+//! let mut table = [0; 2 * raw::RUN_PLACES];
+//! let (mut count, mut index) = (0, 0);
+//! // SAFETY: the pointers come from slices and variables of this program, and none overlaps.
+//! let result = unsafe {
+//!     raw::cegridom_runs(
+//!         word.as_ptr(),
+//!         word.len(),
+//!         table.as_mut_ptr(),
+//!         table.len(),
+//!         &mut count,
+//!         &mut index,
+//!     )
+//! };
+//! assert_eq!(Refusal::check(result, index), Ok(()));
+//! assert_eq!((count, table), (2, [1, 2, 1, 3, 4, 1]));
+//! ```
+
+/// The places of one run in a table: first, last, unit.
+pub const RUN_PLACES: usize = 3;
+
+/// The numbers of one block in a path: the run number, the end.
+pub const STEP_PLACES: usize = 2;
 
 extern "C" {
+    /// Behind [`part`](crate::part). `*block` is 1 for a block, else 0. Refusals: 1, 6.
     pub fn cegridom_part(
         word: *const u8,
-        word_len: usize,
+        n: usize,
         first: u32,
         last: u32,
         unit: *mut u32,
@@ -22,81 +53,93 @@ extern "C" {
         index: *mut u32,
     ) -> u32;
 
+    /// Behind [`runs_into`](crate::runs_into). A run takes [`RUN_PLACES`] places of the table.
+    /// Refusals: 1, 7.
     pub fn cegridom_runs(
         word: *const u8,
-        word_len: usize,
+        n: usize,
         table: *mut u32,
-        table_len: usize,
+        places: usize,
         count: *mut u32,
         index: *mut u32,
     ) -> u32;
 
+    /// Behind [`nodes_into`](crate::nodes_into). Refusals: 1, 6, 7.
     pub fn cegridom_nodes(
         word: *const u8,
-        word_len: usize,
+        n: usize,
         position: u32,
         table: *mut u32,
-        table_len: usize,
+        places: usize,
         count: *mut u32,
         index: *mut u32,
     ) -> u32;
 
+    /// Behind [`best_split_into`](crate::best_split_into). The choice is 1 for the fewest blocks, 2
+    /// for the most. Refusals: 1, 8, 9, 2, 7.
     pub fn cegridom_best_split(
         word: *const u8,
-        word_len: usize,
+        n: usize,
         choice: u32,
         ends: *mut u32,
-        ends_len: usize,
+        end_places: usize,
         work: *mut u32,
-        work_len: usize,
+        work_places: usize,
         size: *mut u32,
         index: *mut u32,
     ) -> u32;
 
+    /// Behind [`judge_split`](crate::judge_split). Refusals: 1; for each end in turn 3, 4; 5.
     pub fn cegridom_judge_split(
         word: *const u8,
-        word_len: usize,
+        n: usize,
         ends: *const u32,
-        ends_len: usize,
+        end_count: usize,
         blocks: *mut u32,
         index: *mut u32,
     ) -> u32;
 
+    /// Behind [`path_of_split_into`](crate::path_of_split_into). Refusals: 1; for each end in turn
+    /// 3, 4; 5; 7.
     pub fn cegridom_path_of_split(
         word: *const u8,
-        word_len: usize,
+        n: usize,
         ends: *const u32,
-        ends_len: usize,
+        end_count: usize,
         table: *mut u32,
-        table_len: usize,
+        places: usize,
         blocks: *mut u32,
         index: *mut u32,
     ) -> u32;
 
+    /// Behind [`judge_path`](crate::judge_path). A block takes [`STEP_PLACES`] of the numbers.
+    /// Refusals: 1; 10; for each end in turn 3, 4; 5.
     pub fn cegridom_judge_path(
         word: *const u8,
-        word_len: usize,
+        n: usize,
         numbers: *const u32,
-        numbers_len: usize,
+        number_count: usize,
         blocks: *mut u32,
         index: *mut u32,
     ) -> u32;
 
+    /// Behind [`write_plan_into`](crate::write_plan_into). Refusals: 1; 3 for each end; 5; 7.
     pub fn cegridom_write_plan(
         n: u32,
         ends: *const u32,
-        ends_len: usize,
+        end_count: usize,
         out: *mut u8,
-        out_len: usize,
+        room: usize,
         bytes: *mut u32,
         index: *mut u32,
     ) -> u32;
 
+    /// Behind [`read_plan_into`](crate::read_plan_into). Refusals: 11; 1; 3 for each end; 5; 7.
     pub fn cegridom_read_plan(
         line: *const u8,
-        line_len: usize,
+        length: usize,
         table: *mut u32,
-        table_len: usize,
+        places: usize,
         n: *mut u32,
         count: *mut u32,
         index: *mut u32,

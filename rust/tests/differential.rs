@@ -6,10 +6,10 @@
 mod reference;
 mod words;
 
-use cegridom::raw;
+use cegridom::{raw, Choice, Refusal, Step};
 use reference::Outcome::{self, Accepted, Refused};
 use reference::{Run, LIMIT};
-use words::{fibonacci, last_differs, thue_morse};
+use words::{every_word, fibonacci, last_differs, thue_morse};
 
 /// What stands in a value before a call, and beside a table.
 const GUARD: u32 = 0xdead_beef;
@@ -17,6 +17,8 @@ const GUARD: u32 = 0xdead_beef;
 const LONG: usize = 1000;
 /// How many places beside a table are watched.
 const MARGIN: usize = 3;
+/// More places than any answer needs.
+const MANY: usize = 5 * LIMIT + 20;
 
 /// A table of some places, of known contents, between guards.
 struct Lent<T> {
@@ -388,21 +390,6 @@ fn encoded(numbers: &[u32], ends: &[u32]) -> Vec<u32> {
 
 // ---- words
 
-/// Calls with each word over so many symbols up to a length.
-fn every_word(symbols: u8, longest: usize, mut with: impl FnMut(&[u8])) {
-    for length in 0..=longest {
-        let mut word = vec![0; length];
-        loop {
-            with(&word);
-            let Some(i) = word.iter().position(|&s| s + 1 < symbols) else {
-                break;
-            };
-            word[i] += 1;
-            word[..i].fill(0);
-        }
-    }
-}
-
 fn every_short_word(mut with: impl FnMut(&[u8])) {
     every_word(2, 10, &mut with);
     every_word(3, 7, &mut with);
@@ -429,10 +416,10 @@ impl Numbers {
 }
 
 /// Words of a length that have structure: equal symbols, a last symbol that differs, Fibonacci,
-/// Thue-Morse, period 64, repetitions joined, and random ones.
+/// Thue-Morse, a unit of 64, blocks joined, and random ones.
 fn structured(n: usize) -> Vec<Vec<u8>> {
     let mut numbers = Numbers(0x9e37_79b9_7f4a_7c15 ^ n as u64);
-    let period = numbers.word(64, 4);
+    let unit_of_64 = numbers.word(64, 4);
     let mut joined = Vec::new();
     while joined.len() < n {
         let span = 1 + numbers.below(40);
@@ -446,7 +433,7 @@ fn structured(n: usize) -> Vec<Vec<u8>> {
         last_differs(n),
         fibonacci(n),
         thue_morse(n),
-        (0..n).map(|i| period[i % 64]).collect(),
+        (0..n).map(|i| unit_of_64[i % 64]).collect(),
         joined,
         numbers.word(n, 2),
         numbers.word(n, 4),
@@ -603,14 +590,14 @@ fn long_words() {
             long_word(&mut checker, &mut numbers, &w);
         }
     }
-    // Random words of any length, and repetitions with one symbol changed.
+    // Random words of any length, and blocks with one symbol changed.
     for _ in 0..400 {
         let n = 1 + numbers.below(90);
         let symbols = [2, 3, 4, 256][numbers.below(4)];
         let w = numbers.word(n, symbols);
         long_word(&mut checker, &mut numbers, &w);
-        let period = 1 + numbers.below(n);
-        let mut w: Vec<u8> = w[..period].iter().cycle().take(n).copied().collect();
+        let unit = 1 + numbers.below(n);
+        let mut w: Vec<u8> = w[..unit].iter().cycle().take(n).copied().collect();
         long_word(&mut checker, &mut numbers, &w);
         w[numbers.below(n)] ^= 1;
         long_word(&mut checker, &mut numbers, &w);
@@ -865,80 +852,205 @@ fn every_refusal_in_its_order() {
     checker.report("every refusal in its order");
 }
 
+/// Makes the comparisons of the crate's own functions and counts them.
+#[derive(Default)]
+struct Wrappers {
+    made: u64,
+}
+
+/// What an outcome is as a `Result`, with the values turned into the answer's type.
+fn said<T>(outcome: Outcome, answer: impl FnOnce(&[u32]) -> T) -> Result<T, (u32, u32)> {
+    match outcome {
+        Accepted(values) => Ok(answer(&values)),
+        Refused(number, index) => Err((number, index)),
+    }
+}
+
+fn only(values: &[u32]) -> usize {
+    assert_eq!(values.len(), 1);
+    values[0] as usize
+}
+
+/// A lent table of so many places after a call that wrote this front of it.
+fn table<T: Copy>(front: &[T], places: usize, before: T) -> Vec<T> {
+    let mut table = front.to_vec();
+    table.resize(places.max(front.len()), before);
+    table
+}
+
+fn as_runs(flat: &[u32]) -> Vec<cegridom::Run> {
+    flat.chunks_exact(raw::RUN_PLACES)
+        .map(|r| cegridom::Run {
+            first: r[0],
+            last: r[1],
+            unit: r[2],
+        })
+        .collect()
+}
+
+fn as_steps(numbers: &[u32], ends: &[u32]) -> Vec<Step> {
+    let step = |(&run, &end)| Step { run, end };
+    numbers.iter().zip(ends).map(step).collect()
+}
+
+impl Wrappers {
+    fn agree<T: PartialEq + std::fmt::Debug>(
+        &mut self,
+        got: Result<T, Refusal>,
+        expected: Result<T, (u32, u32)>,
+    ) {
+        let got = got.map_err(|r| (r.number(), r.index().unwrap_or(0)));
+        assert_eq!(got, expected);
+        self.made += 1;
+    }
+
+    fn part(&mut self, w: &[u8], first: u32, last: u32) {
+        let expected = said(reference::part_call(w, first, last), |v| cegridom::Part {
+            unit: v[0],
+            turns: v[1],
+            rest: v[2],
+            block: v[3] == 1,
+        });
+        self.agree(cegridom::part(w, first, last), expected);
+    }
+
+    fn runs(&mut self, known: &Known) {
+        let w = known.word;
+        let (outcome, flat) = reference::runs_call(w, &known.runs, MANY);
+        self.agree(cegridom::runs(w), said(outcome, |_| as_runs(&flat)));
+        for places in around(known.runs.len(), w.len()) {
+            let mut lent = vec![cegridom::Run::default(); places];
+            let (outcome, flat) = reference::runs_call(w, &known.runs, 3 * places);
+            self.agree(cegridom::runs_into(w, &mut lent), said(outcome, only));
+            assert_eq!(lent, table(&as_runs(&flat), places, Default::default()));
+        }
+    }
+
+    fn nodes(&mut self, known: &Known, position: u32) {
+        let w = known.word;
+        let (outcome, numbers) = reference::nodes_call(w, &known.runs, position, MANY);
+        let got = cegridom::nodes(w, position);
+        self.agree(got, said(outcome, |_| numbers.clone()));
+        for places in around(numbers.len(), w.len()) {
+            let mut lent = vec![GUARD; places];
+            let (outcome, numbers) = reference::nodes_call(w, &known.runs, position, places);
+            let got = cegridom::nodes_into(w, position, &mut lent);
+            self.agree(got, said(outcome, only));
+            assert_eq!(lent, table(&numbers, places, GUARD));
+        }
+    }
+
+    /// Gives the ends of the best split; none where there is none.
+    fn best_split(&mut self, known: &Known, choice: Choice) -> Vec<u32> {
+        let w = known.word;
+        let best = &known.best[(choice == Choice::Most) as usize];
+        let call = |places, work_places| {
+            reference::best_call(w, choice.number(), best, places, work_places)
+        };
+        let (outcome, ends, _) = call(MANY, MANY);
+        let got = cegridom::best_split(w, choice);
+        self.agree(got, said(outcome, |_| ends.clone()));
+        let sizes = best.0.iter().map(|&s| (s != reference::NONE).then_some(s));
+        let expected = match w.len() {
+            0..=LIMIT => Ok(sizes.collect()),
+            _ => Err((1, 0)),
+        };
+        self.agree(cegridom::best_sizes(w, choice), expected);
+        let exact = cegridom::work_places(w.len());
+        for (places, work_places) in [
+            (ends.len().saturating_sub(1), exact),
+            (ends.len(), exact),
+            (ends.len() + 1, exact + 1),
+            (ends.len(), exact - 1),
+        ] {
+            let (mut lent, mut work) = (vec![GUARD; places], vec![GUARD; work_places]);
+            let (outcome, front, work_front) = call(places, work_places);
+            let got = cegridom::best_split_into(w, choice, &mut lent, &mut work);
+            self.agree(got, said(outcome, only));
+            assert_eq!(lent, table(&front, places, GUARD));
+            assert_eq!(work, table(&work_front, work_places, GUARD));
+        }
+        ends
+    }
+
+    /// Gives the run number of each block; none where the ends are not those of a split.
+    fn path_of_split(&mut self, known: &Known, ends: &[u32]) -> Vec<u32> {
+        let w = known.word;
+        let (outcome, numbers) = reference::path_call(w, &known.runs, ends, MANY);
+        let got = cegridom::path_of_split(w, ends);
+        self.agree(got, said(outcome, |_| numbers.clone()));
+        for places in around(ends.len(), w.len()) {
+            let mut lent = vec![GUARD; places];
+            let (outcome, front) = reference::path_call(w, &known.runs, ends, places);
+            let got = cegridom::path_of_split_into(w, ends, &mut lent);
+            self.agree(got, said(outcome, only));
+            assert_eq!(lent, table(&front, places, GUARD));
+        }
+        numbers
+    }
+
+    fn judges(&mut self, known: &Known, ends: &[u32], numbers: &[u32]) {
+        let w = known.word;
+        let outcome = reference::judge_split_call(w, ends);
+        self.agree(cegridom::judge_split(w, ends), said(outcome, only));
+        let outcome = reference::judge_path_call(w, &known.runs, &encoded(numbers, ends));
+        let got = cegridom::judge_path(w, &as_steps(numbers, ends));
+        self.agree(got, said(outcome, only));
+    }
+
+    fn plans(&mut self, n: usize, ends: &[u32]) {
+        let written = |places| reference::write_call(n as u32, ends, places);
+        let (outcome, line) = written(MANY);
+        let got = cegridom::write_plan(n, ends);
+        self.agree(got, said(outcome, |_| line.clone()));
+        for places in around(line.len(), n) {
+            let mut lent = vec![b'.'; places];
+            let (outcome, front) = written(places);
+            let got = cegridom::write_plan_into(n, ends, &mut lent);
+            self.agree(got, said(outcome, only));
+            assert_eq!(lent, table(&front, places, b'.'));
+        }
+        let (outcome, back) = reference::read_call(&line, MANY);
+        let expected = said(outcome, |v| cegridom::Plan {
+            n: v[0] as usize,
+            ends: back.clone(),
+        });
+        self.agree(cegridom::read_plan(&line), expected);
+        for places in around(back.len(), n) {
+            let mut lent = vec![GUARD; places];
+            let (outcome, front) = reference::read_call(&line, places);
+            let got = cegridom::read_plan_into(&line, &mut lent);
+            let expected = said(outcome, |v| (v[0] as usize, v[1] as usize));
+            self.agree(got, expected);
+            assert_eq!(lent, table(&front, places, GUARD));
+        }
+    }
+}
+
 /// The functions of the crate against the same answers.
 #[test]
 fn wrappers() {
-    use cegridom::Choice::{Largest, Smallest};
-    let mut made = 0u64;
-    let code = |r: cegridom::Refusal| (r.number(), r.index().unwrap_or(0));
-    let expected = |o: &Outcome| match o {
-        Accepted(values) => Ok(values.clone()),
-        Refused(number, index) => Err((*number, *index)),
-    };
     let mut words: Vec<Vec<u8>> = structured(200);
     words.push(vec![b'a'; 4096]);
     words.push(vec![b'a'; 4097]);
     every_word(2, 7, |w| words.push(w.to_vec()));
+    let mut wrappers = Wrappers::default();
     for w in &words {
         let known = Known::of(w);
-        let many = 5 * w.len() + 20;
         let n = w.len() as u32;
         for (first, last) in [(1, n), (2, n), (0, n), (n, n), (1, n / 2)] {
-            let got = cegridom::part(w, first, last)
-                .map(|p| vec![p.period, p.exponent, p.remainder, p.repetition as u32])
-                .map_err(code);
-            assert_eq!(got, expected(&reference::part_call(w, first, last)));
+            wrappers.part(w, first, last);
         }
-        let (outcome, table) = reference::runs_call(w, &known.runs, many);
-        let got = cegridom::runs(w).map_err(code).map(|runs| {
-            runs.iter()
-                .flat_map(|r| [r.first, r.last, r.period])
-                .collect::<Vec<_>>()
-        });
-        assert_eq!(got, expected(&outcome).map(|_| table));
+        wrappers.runs(&known);
         for position in [0, 1, n / 2, n, n + 1] {
-            let (outcome, table) = reference::nodes_call(w, &known.runs, position, many);
-            let got = cegridom::nodes(w, position).map_err(code);
-            assert_eq!(got, expected(&outcome).map(|_| table));
+            wrappers.nodes(&known, position);
         }
-        for choice in [Smallest, Largest] {
-            let best = &known.best[choice as usize - 1];
-            let (outcome, ends, _) = reference::best_call(w, choice as u32, best, many, many);
-            let got = cegridom::best_split(w, choice).map_err(code);
-            assert_eq!(got, expected(&outcome).map(|_| ends.clone()));
-            let sizes = cegridom::best_sizes(w, choice);
-            if w.len() > LIMIT {
-                assert_eq!(sizes, Err(cegridom::Refusal::TooLong));
-            } else {
-                let flat: Vec<u32> = sizes
-                    .unwrap()
-                    .iter()
-                    .map(|s| s.unwrap_or(cegridom::NONE))
-                    .collect();
-                assert_eq!(flat, best.0);
-            }
-            let outcome = reference::judge_split_call(w, &ends);
-            let got = cegridom::judge_split(w, &ends).map(|b| vec![b]);
-            assert_eq!(got.map_err(code), expected(&outcome));
-            let (outcome, numbers) = reference::path_call(w, &known.runs, &ends, many);
-            let got = cegridom::path_of_split(w, &ends).map_err(code);
-            assert_eq!(got, expected(&outcome).map(|_| numbers.clone()));
-            let path = encoded(&numbers, &ends);
-            let outcome = reference::judge_path_call(w, &known.runs, &path);
-            let got = cegridom::judge_path(w, &path).map(|b| vec![b]);
-            assert_eq!(got.map_err(code), expected(&outcome));
-            let (outcome, line) = reference::write_call(n, &ends, many);
-            let got = cegridom::write_plan(n, &ends).map_err(code);
-            assert_eq!(got, expected(&outcome).map(|_| line.clone()));
-            let (outcome, back) = reference::read_call(&line, many);
-            let got = cegridom::read_plan(&line).map_err(code);
-            assert_eq!(
-                got.map(|plan| (plan.n, plan.ends)),
-                expected(&outcome).map(|values| (values[0], back))
-            );
-            made += 7;
+        for choice in [Choice::Fewest, Choice::Most] {
+            let ends = wrappers.best_split(&known, choice);
+            let numbers = wrappers.path_of_split(&known, &ends);
+            wrappers.judges(&known, &ends, &numbers);
+            wrappers.plans(w.len(), &ends);
         }
-        made += 11;
     }
-    println!("the wrappers: {made} comparisons");
+    println!("the wrappers: {} comparisons", wrappers.made);
 }

@@ -22,3 +22,18 @@ pub fn last_differs(n: usize) -> Vec<u8> {
     }
     word
 }
+
+/// Calls with each word over so many symbols up to a length.
+pub fn every_word(symbols: u8, longest: usize, mut with: impl FnMut(&[u8])) {
+    for length in 0..=longest {
+        let mut word = vec![0; length];
+        loop {
+            with(&word);
+            let Some(i) = word.iter().position(|&s| s + 1 < symbols) else {
+                break;
+            };
+            word[i] += 1;
+            word[..i].fill(0);
+        }
+    }
+}

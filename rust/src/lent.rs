@@ -1,0 +1,303 @@
+//! The calls that allocate nothing.
+//!
+//! Safety of the calls into the archive: every pointer handed over comes from a slice, with that
+//! slice's own count of elements, or from a variable of the wrapper, and is valid for the whole
+//! call. Whatever is written comes from a `&mut` of its own, so that no two overlap.
+
+use crate::raw::{self, RUN_PLACES, STEP_PLACES};
+use crate::Refusal;
+
+/// Whether the split with the fewest or with the most blocks is wanted.
+#[derive(Clone, Copy, Debug, PartialEq, Eq, Hash)]
+pub enum Choice {
+    /// The fewest blocks: choice 1.
+    Fewest,
+    /// The most blocks: choice 2.
+    Most,
+}
+
+impl Choice {
+    /// The number of the choice, which the functions in [`raw`] take.
+    pub const fn number(self) -> u32 {
+        match self {
+            Choice::Fewest => 1,
+            Choice::Most => 2,
+        }
+    }
+}
+
+/// What [`part`] says of a part of a word.
+#[derive(Clone, Copy, Debug, PartialEq, Eq, Hash)]
+pub struct Part {
+    /// The smallest distance at which no two symbols of the part differ; the length, where they do
+    /// at every smaller one.
+    pub unit: u32,
+    /// The length divided by the unit, rounded down.
+    pub turns: u32,
+    /// The remainder of that division.
+    pub rest: u32,
+    /// Whether the part is a block: at least twice as long as its unit.
+    pub block: bool,
+}
+
+/// A run: a block that cannot be lengthened. Positions count from 1.
+#[derive(Clone, Copy, Debug, Default, PartialEq, Eq, Hash)]
+#[repr(C)]
+pub struct Run {
+    /// The position of its first symbol.
+    pub first: u32,
+    /// The position of its last symbol.
+    pub last: u32,
+    /// Its unit.
+    pub unit: u32,
+}
+
+/// One block of a path.
+#[derive(Clone, Copy, Debug, Default, PartialEq, Eq, Hash)]
+#[repr(C)]
+pub struct Step {
+    /// The number of the run that the block lies in, from 1.
+    pub run: u32,
+    /// The position of the block's end.
+    pub end: u32,
+}
+
+// A run and a step are handed over as so many numbers each.
+const _: () = assert!(size_of::<Run>() == RUN_PLACES * size_of::<u32>());
+const _: () = assert!(size_of::<Step>() == STEP_PLACES * size_of::<u32>());
+
+/// The values that a call hands over by pointer, or its refusal.
+fn values<const N: usize>(
+    call: impl FnOnce(&mut [u32; N], &mut u32) -> u32,
+) -> Result<[u32; N], Refusal> {
+    let (mut values, mut index) = ([0; N], 0);
+    let result = call(&mut values, &mut index);
+    Refusal::check(result, index).map(|()| values)
+}
+
+/// The one value that a call hands over, a count, or its refusal.
+fn count(call: impl FnOnce(&mut u32, &mut u32) -> u32) -> Result<usize, Refusal> {
+    values(|[count], index| call(count, index)).map(|[count]| count as usize)
+}
+
+/// The unit, the turns and the rest of the symbols at the positions `first` to `last`, and whether
+/// they are a block.
+///
+/// Refusals: 1, 6. Time at most the product of the part's length and its unit.
+///
+/// ```
+/// use cegridom::{part, Refusal};
+///
+/// let p = part(b"ababa", 1, 5).unwrap();
+/// assert_eq!((p.unit, p.turns, p.rest, p.block), (2, 2, 1, true));
+/// assert_eq!(part(b"ababa", 2, 6), Err(Refusal::BadPosition));
+/// ```
+pub fn part(word: &[u8], first: u32, last: u32) -> Result<Part, Refusal> {
+    let (n, word) = (word.len(), word.as_ptr());
+    values(|[unit, turns, rest, block], index| {
+        // SAFETY: as said at the head of this file.
+        unsafe { raw::cegridom_part(word, n, first, last, unit, turns, rest, block, index) }
+    })
+    .map(|[unit, turns, rest, block]| Part {
+        unit,
+        turns,
+        rest,
+        block: block == 1,
+    })
+}
+
+/// Writes the runs of a word, by first and then by unit, and gives how many there are. The run at
+/// place `i` of the table has the number `i + 1`.
+///
+/// Refusals: 1, 7. Time at most quadratic in the length; 17 KiB of stack.
+///
+/// ```
+/// use cegridom::{runs_into, Run};
+///
+/// let mut table = [Run::default(); 3];
+/// assert_eq!(runs_into(b"aabb", &mut table), Ok(2));
+/// assert_eq!(table[0], Run { first: 1, last: 2, unit: 1 });
+/// assert_eq!(table[1], Run { first: 3, last: 4, unit: 1 });
+/// assert_eq!(table[2], Run::default());
+/// ```
+pub fn runs_into(word: &[u8], table: &mut [Run]) -> Result<usize, Refusal> {
+    let (n, word) = (word.len(), word.as_ptr());
+    let (places, table) = (RUN_PLACES * table.len(), table.as_mut_ptr().cast());
+    // SAFETY: as said at the head of this file; a run is `RUN_PLACES` numbers.
+    count(|count, index| unsafe { raw::cegridom_runs(word, n, table, places, count, index) })
+}
+
+/// Writes the numbers of the runs that have a white node at a position, rising, and gives how many
+/// there are. A run has one at each position from `first + 2 * unit - 1` to `last`.
+///
+/// Refusals: 1, 6, 7. Time at most quadratic in the length; 65 KiB of stack.
+///
+/// ```
+/// let mut table = [0; 3];
+/// assert_eq!(cegridom::nodes_into(b"aabaabaa", 8, &mut table), Ok(2));
+/// assert_eq!(table, [2, 4, 0]);
+/// ```
+pub fn nodes_into(word: &[u8], position: u32, table: &mut [u32]) -> Result<usize, Refusal> {
+    let (n, word) = (word.len(), word.as_ptr());
+    let (places, table) = (table.len(), table.as_mut_ptr());
+    // SAFETY: as said at the head of this file.
+    count(|count, index| unsafe {
+        raw::cegridom_nodes(word, n, position, table, places, count, index)
+    })
+}
+
+/// Writes the ends of the split with the fewest or the most blocks, and gives its size, the number
+/// of its blocks. Of the splits of that size it is the one whose last block is longest, then the
+/// one before it, and so on.
+///
+/// Refusals: 1, 9, 2, 7. Time at most quadratic in the length; 48 bytes of stack a block of the
+/// split, 97 KiB at most.
+///
+/// The working table needs [`work_places`](crate::work_places) places, and those past them never
+/// change. After an answer, and after 2 and 7 too, its first `n + 1` places hold the best size of
+/// each leading part of 0 to `n` symbols, [`NONE`](crate::NONE) where it has no split, and the next
+/// `3 * (n + 1)` hold 0. After 1 and 9 it keeps its contents.
+///
+/// ```
+/// use cegridom::{best_split_into, work_places, Choice, NONE};
+///
+/// let mut ends = [9; 3];
+/// let mut work = [9; work_places(4)];
+/// assert_eq!(best_split_into(b"aaaa", Choice::Most, &mut ends, &mut work), Ok(2));
+/// assert_eq!(ends, [2, 4, 9]);
+/// assert_eq!(work[..5], [0, NONE, 1, 1, 2]);
+/// ```
+pub fn best_split_into(
+    word: &[u8],
+    choice: Choice,
+    ends: &mut [u32],
+    work: &mut [u32],
+) -> Result<usize, Refusal> {
+    let (n, word) = (word.len(), word.as_ptr());
+    let choice = choice.number();
+    let (end_places, ends) = (ends.len(), ends.as_mut_ptr());
+    let (work_places, work) = (work.len(), work.as_mut_ptr());
+    // SAFETY: as said at the head of this file.
+    count(|size, index| unsafe {
+        raw::cegridom_best_split(
+            word,
+            n,
+            choice,
+            ends,
+            end_places,
+            work,
+            work_places,
+            size,
+            index,
+        )
+    })
+}
+
+/// Judges a split, given by its ends: the number of its blocks, or what is wrong with it.
+///
+/// Refusals: 1; then for each end in turn 3, 4; then 5. Time at most quadratic in the length.
+///
+/// ```
+/// use cegridom::{judge_split, Refusal};
+///
+/// assert_eq!(judge_split(b"aabaabaa", &[2, 8]), Ok(2));
+/// assert_eq!(judge_split(b"aabaabaa", &[3, 8]), Err(Refusal::NotBlock { index: 1 }));
+/// assert_eq!(judge_split(b"aabaabaa", &[2, 2, 8]), Err(Refusal::BadEnd { index: 2 }));
+/// assert_eq!(judge_split(b"aabaabaa", &[]), Err(Refusal::Unfinished));
+/// ```
+pub fn judge_split(word: &[u8], ends: &[u32]) -> Result<usize, Refusal> {
+    let (n, word) = (word.len(), word.as_ptr());
+    let (end_count, ends) = (ends.len(), ends.as_ptr());
+    // SAFETY: as said at the head of this file.
+    count(|blocks, index| unsafe {
+        raw::cegridom_judge_split(word, n, ends, end_count, blocks, index)
+    })
+}
+
+/// Writes the run number of each block of a split, and gives how many there are. It is that of the
+/// one run that encloses the block and has its unit.
+///
+/// Refusals: 1; then for each end in turn 3, 4; then 5; then 7. Time at most quadratic in the
+/// length; 81 KiB of stack.
+///
+/// ```
+/// let mut table = [9; 3];
+/// assert_eq!(cegridom::path_of_split_into(b"aabaabaa", &[2, 8], &mut table), Ok(2));
+/// assert_eq!(table, [1, 2, 9]);
+/// ```
+pub fn path_of_split_into(word: &[u8], ends: &[u32], table: &mut [u32]) -> Result<usize, Refusal> {
+    let (n, word) = (word.len(), word.as_ptr());
+    let (end_count, ends) = (ends.len(), ends.as_ptr());
+    let (places, table) = (table.len(), table.as_mut_ptr());
+    // SAFETY: as said at the head of this file.
+    count(|blocks, index| unsafe {
+        raw::cegridom_path_of_split(word, n, ends, end_count, table, places, blocks, index)
+    })
+}
+
+/// Judges a path in the graph of the runs: the number of its blocks, or what is wrong with it.
+///
+/// Refusals: 1; then for each end in turn 3, 4; then 5. Time at most quadratic in the length;
+/// 81 KiB of stack.
+///
+/// ```
+/// use cegridom::{judge_path, Refusal, Step};
+///
+/// let first = Step { run: 1, end: 2 };
+/// assert_eq!(judge_path(b"aabaabaa", &[first, Step { run: 2, end: 8 }]), Ok(2));
+/// assert_eq!(
+///     judge_path(b"aabaabaa", &[first, Step { run: 4, end: 8 }]),
+///     Err(Refusal::NotBlock { index: 2 })
+/// );
+/// assert_eq!(judge_path(b"aabaabaa", &[first]), Err(Refusal::Unfinished));
+/// ```
+pub fn judge_path(word: &[u8], path: &[Step]) -> Result<usize, Refusal> {
+    let (n, word) = (word.len(), word.as_ptr());
+    let (number_count, numbers) = (STEP_PLACES * path.len(), path.as_ptr().cast());
+    // SAFETY: as said at the head of this file; a step is `STEP_PLACES` numbers.
+    count(|blocks, index| unsafe {
+        raw::cegridom_judge_path(word, n, numbers, number_count, blocks, index)
+    })
+}
+
+/// Writes the plan line of a word's length and the ends of a split, and gives its count of bytes.
+/// The line carries no symbols, so it is not asked whether the pieces are blocks.
+///
+/// Refusals: 1, also where `n` is more than 32 bits hold; 3 for each end; 5; 7. Time linear in the
+/// line.
+///
+/// ```
+/// let mut out = [b'.'; 26];
+/// assert_eq!(cegridom::write_plan_into(8, &[2, 8], &mut out), Ok(25));
+/// assert_eq!(&out, b"plan,0008,0002,0002,0008\n.");
+/// ```
+pub fn write_plan_into(n: usize, ends: &[u32], out: &mut [u8]) -> Result<usize, Refusal> {
+    // What does not fit is too long, and so is the greatest number that does.
+    let n = u32::try_from(n).unwrap_or(u32::MAX);
+    let (end_count, ends) = (ends.len(), ends.as_ptr());
+    let (room, out) = (out.len(), out.as_mut_ptr());
+    // SAFETY: as said at the head of this file.
+    count(|bytes, index| unsafe {
+        raw::cegridom_write_plan(n, ends, end_count, out, room, bytes, index)
+    })
+}
+
+/// Reads a plan line: writes the ends, and gives the word's length and how many ends there are.
+///
+/// Refusals: 11; then 1; 3 for each end; 5; 7. Time linear in the line.
+///
+/// ```
+/// let mut table = [9; 3];
+/// let line = b"plan,0008,0002,0002,0008\n";
+/// assert_eq!(cegridom::read_plan_into(line, &mut table), Ok((8, 2)));
+/// assert_eq!(table, [2, 8, 9]);
+/// ```
+pub fn read_plan_into(line: &[u8], table: &mut [u32]) -> Result<(usize, usize), Refusal> {
+    let (length, line) = (line.len(), line.as_ptr());
+    let (places, table) = (table.len(), table.as_mut_ptr());
+    values(|[n, count], index| {
+        // SAFETY: as said at the head of this file.
+        unsafe { raw::cegridom_read_plan(line, length, table, places, n, count, index) }
+    })
+    .map(|[n, count]| (n as usize, count as usize))
+}

@@ -1,0 +1,175 @@
+//! The calls that allocate their answer.
+
+use crate::{
+    best_split_into, most_ends, nodes_into, path_of_split_into, plan_bytes, read_plan_into,
+    runs_into, work_places, write_plan_into, Choice, Refusal, Run, LIMIT, NONE,
+};
+use alloc::vec;
+use alloc::vec::Vec;
+
+/// What a plan line holds.
+#[derive(Clone, Debug, PartialEq, Eq, Hash)]
+pub struct Plan {
+    /// The length of the word.
+    pub n: usize,
+    /// The ends of the split.
+    pub ends: Vec<u32>,
+}
+
+/// The length to allocate for: a word that is too long is refused whatever is lent.
+fn allowed(n: usize) -> usize {
+    if n > LIMIT {
+        0
+    } else {
+        n
+    }
+}
+
+/// The front of a table, in no more memory than it needs.
+fn front<T>(mut table: Vec<T>, count: usize) -> Vec<T> {
+    table.truncate(count);
+    table.shrink_to_fit();
+    table
+}
+
+/// The runs of a word, by first and then by unit; run number `i` is at place `i - 1`.
+///
+/// Refusal: 1. Allocates a run for each symbol while it works; 17 KiB of stack.
+///
+/// ```
+/// let runs = cegridom::runs(b"aabaabaa").unwrap();
+/// let seen: Vec<_> = runs.iter().map(|r| (r.first, r.last, r.unit)).collect();
+/// assert_eq!(seen, [(1, 2, 1), (1, 8, 3), (4, 5, 1), (7, 8, 1)]);
+/// ```
+pub fn runs(word: &[u8]) -> Result<Vec<Run>, Refusal> {
+    // A word has fewer runs than symbols (Bannai et al., The "Runs" Theorem).
+    let mut table = vec![Run::default(); allowed(word.len())];
+    let count = runs_into(word, &mut table)?;
+    Ok(front(table, count))
+}
+
+/// The numbers of the runs that have a white node at a position, rising: those that are two whole
+/// turns long or longer up to it.
+///
+/// Refusals: 1, 6. Allocates a number for each symbol while it works; 65 KiB of stack.
+///
+/// ```
+/// use cegridom::{nodes, Refusal};
+///
+/// assert_eq!(nodes(b"aabaabaa", 8), Ok(vec![2, 4]));
+/// assert_eq!(nodes(b"aabaabaa", 0), Err(Refusal::BadPosition));
+/// ```
+pub fn nodes(word: &[u8], position: u32) -> Result<Vec<u32>, Refusal> {
+    let mut table = vec![0; allowed(word.len())];
+    let count = nodes_into(word, position, &mut table)?;
+    Ok(front(table, count))
+}
+
+/// The ends of the split with the fewest or the most blocks. Of the splits of that size it is the
+/// one whose last block is longest, then the one before it, and so on.
+///
+/// Refusals: 1, 2. Allocates [`most_ends`] and [`work_places`] numbers while it works; 48 bytes of
+/// stack a block of the split, 97 KiB at most.
+///
+/// ```
+/// use cegridom::{best_split, Choice, Refusal};
+///
+/// let word = b"abaabaababaabaabababa";
+/// assert_eq!(best_split(word, Choice::Fewest), Ok(vec![16, 21]));
+/// assert_eq!(best_split(word, Choice::Most), Ok(vec![6, 10, 16, 21]));
+/// assert_eq!(best_split(b"ab", Choice::Most), Err(Refusal::NoSplit));
+/// ```
+pub fn best_split(word: &[u8], choice: Choice) -> Result<Vec<u32>, Refusal> {
+    let n = allowed(word.len());
+    let mut ends = vec![0; most_ends(n)];
+    let mut work = vec![0; work_places(n)];
+    let size = best_split_into(word, choice, &mut ends, &mut work)?;
+    Ok(front(ends, size))
+}
+
+/// The size of the best split of each leading part, from the empty one to the whole word; `None`
+/// where it has no split.
+///
+/// Refusal: 1. Allocates [`work_places`] numbers while it works, and its answer.
+///
+/// ```
+/// use cegridom::{best_sizes, Choice};
+///
+/// assert_eq!(
+///     best_sizes(b"aabb", Choice::Fewest),
+///     Ok(vec![Some(0), None, Some(1), None, Some(2)])
+/// );
+/// ```
+pub fn best_sizes(word: &[u8], choice: Choice) -> Result<Vec<Option<u32>>, Refusal> {
+    let n = allowed(word.len());
+    let mut work = vec![0; work_places(n)];
+    // No places for ends are lent: 7 and 2 leave the working table as an answer does.
+    match best_split_into(word, choice, &mut [], &mut work) {
+        Ok(_) | Err(Refusal::TooFewPlaces | Refusal::NoSplit) => {
+            let known = |&size: &u32| (size != NONE).then_some(size);
+            Ok(work.iter().take(n + 1).map(known).collect())
+        }
+        Err(refusal) => Err(refusal),
+    }
+}
+
+/// The run number of each block of a split: that of the one run that encloses the block and has its
+/// unit.
+///
+/// Refusals: 1; then for each end in turn 3, 4; then 5. Allocates its answer; 81 KiB of stack.
+///
+/// ```
+/// use cegridom::{judge_path, path_of_split, Step};
+///
+/// let (word, ends) = (b"aabaabaa", [2, 8]);
+/// let runs = path_of_split(word, &ends).unwrap();
+/// assert_eq!(runs, [1, 2]);
+///
+/// let path: Vec<Step> = runs.into_iter().zip(ends).map(|(run, end)| Step { run, end }).collect();
+/// assert_eq!(judge_path(word, &path), Ok(2));
+/// ```
+pub fn path_of_split(word: &[u8], ends: &[u32]) -> Result<Vec<u32>, Refusal> {
+    // More ends than a split has are refused whatever is lent.
+    let mut table = vec![0; ends.len().min(most_ends(allowed(word.len())))];
+    let count = path_of_split_into(word, ends, &mut table)?;
+    Ok(front(table, count))
+}
+
+/// The plan line of a word's length and the ends of a split. The line carries no symbols, so it is
+/// not asked whether the pieces are blocks.
+///
+/// Refusals: 1, also where `n` is more than 32 bits hold; 3 for each end; 5. Allocates its answer.
+///
+/// ```
+/// use cegridom::{write_plan, Refusal};
+///
+/// assert_eq!(write_plan(8, &[2, 8]).unwrap(), b"plan,0008,0002,0002,0008\n");
+/// assert_eq!(write_plan(8, &[2]), Err(Refusal::Unfinished));
+/// ```
+pub fn write_plan(n: usize, ends: &[u32]) -> Result<Vec<u8>, Refusal> {
+    // Ends that rise to n are at most n of them; more are refused whatever is lent.
+    let mut out = vec![0; plan_bytes(ends.len().min(allowed(n)))];
+    let bytes = write_plan_into(n, ends, &mut out)?;
+    Ok(front(out, bytes))
+}
+
+/// Reads a plan line.
+///
+/// Refusals: 11; then 1; 3 for each end; 5. Allocates its answer.
+///
+/// ```
+/// use cegridom::{read_plan, Refusal};
+///
+/// let plan = read_plan(b"plan,0008,0002,0002,0008\n").unwrap();
+/// assert_eq!((plan.n, plan.ends), (8, vec![2, 8]));
+/// assert_eq!(read_plan(b"plan,8,0\n"), Err(Refusal::NotPlan));
+/// ```
+pub fn read_plan(line: &[u8]) -> Result<Plan, Refusal> {
+    let ends_within = line.len().saturating_sub(plan_bytes(0)) / (plan_bytes(1) - plan_bytes(0));
+    let mut ends = vec![0; ends_within.min(LIMIT)];
+    let (n, count) = read_plan_into(line, &mut ends)?;
+    Ok(Plan {
+        n,
+        ends: front(ends, count),
+    })
+}
