@@ -1,7 +1,13 @@
-//! What the types of the crate promise: refusals and their numbers, and lengths that do not fit.
+//! What the types of the crate promise: refusals and their numbers, lengths that do not fit, and
+//! the example `fewest`.
 
 use cegridom::{Choice, Refusal, LIMIT};
 use std::error::Error;
+use std::io::{self, Read};
+
+#[path = "../examples/fewest.rs"]
+#[allow(dead_code)]
+mod fewest;
 
 /// The refusals that document 01 lists, in the order of their numbers, with an index of 7.
 const KNOWN: [Refusal; 11] = [
@@ -77,4 +83,43 @@ fn sizes_do_not_overflow() {
     assert_eq!(cegridom::work_places(usize::MAX), usize::MAX);
     assert_eq!(cegridom::plan_bytes(usize::MAX), usize::MAX);
     assert_eq!(cegridom::most_ends(usize::MAX), usize::MAX / 2);
+}
+
+// ---- the example
+
+/// What the example prints for some bytes on standard input.
+fn printed(input: &[u8]) -> String {
+    let mut output = Vec::new();
+    fewest::run(input, &mut output).unwrap();
+    String::from_utf8(output).unwrap()
+}
+
+#[test]
+fn fewest_prints_the_size_and_the_ends() {
+    assert_eq!(printed(b"abaabaababaabaabababa\n"), "2\n16\n21\n");
+    assert_eq!(printed(b"aabaabaa"), "1\n8\n");
+    assert_eq!(printed(b"aa\nbaa\n"), "1\n2\n");
+    assert_eq!(printed(b""), "0\n");
+    assert_eq!(printed(b"baa\n"), "no split\n");
+}
+
+#[test]
+fn fewest_takes_words_up_to_the_limit() {
+    let longest = vec![b'a'; LIMIT];
+    assert_eq!(printed(&longest), "1\n4096\n");
+    assert_eq!(printed(&[&longest[..], b"\n"].concat()), "1\n4096\n");
+    let error = fewest::run(&[&longest[..], b"a\n"].concat()[..], io::sink()).unwrap_err();
+    assert_eq!(error.to_string(), Refusal::TooLong.to_string());
+}
+
+#[test]
+fn fewest_reports_a_read_error() {
+    struct Broken;
+    impl Read for Broken {
+        fn read(&mut self, _: &mut [u8]) -> io::Result<usize> {
+            Err(io::Error::other("broken"))
+        }
+    }
+    let error = fewest::run(io::BufReader::new(Broken), io::sink()).unwrap_err();
+    assert_eq!(error.to_string(), "broken");
 }
