@@ -1,6 +1,6 @@
 //! Times every call beside a plain Rust twin of the same algorithm, in one run, and prints the
-//! result as a Markdown table. In this folder's parent, after `rt staticlib cegridom` at the top of
-//! the repository:
+//! result as a Markdown table. In `rust/`, after `rt staticlib cegridom` at the top of the
+//! repository:
 //!
 //! ```sh
 //! cargo bench --offline
