@@ -1,8 +1,10 @@
 // The bench program: reads one line from standard input, and prints its report.
 ghost use mathlib.Core.Path.{_≡_};
-ghost use Prim.Native.Nat.{_≤_};
-ghost use lib.ListN.{length};
-ghost use Rattle.bench.specs.Line.{lineLength};
+ghost use Prim.Native.Nat.{_≤_, _<_};
+ghost use lib.ListN.{length, take};
+ghost use Rattle.report.specs.Text.{programLimit};
+ghost use Rattle.report.specs.Records.{longestText};
+ghost use Rattle.bench.specs.Line.{lineLength, Holds, printed};
 use answers::Counted;
 use decimals::LINE_END;
 use libc::STDERR_FILENO;
@@ -11,6 +13,21 @@ use libc::STDOUT_FILENO;
 
 // One byte more than the program takes tells a line that is too long.
 const ENOUGH: usize = report::PROGRAM_LIMIT + 1;
+
+// What is printed of a word that has more runs than the program holds.
+const TOO_MANY: [u8; 10] = *b"refused,7\n";
+
+// How reading a line ended.
+enum Input {
+    // byte 10 stands at this place
+    Ended(usize),
+    // the input was over after so many bytes
+    Over(usize),
+    // the bytes are all taken, and byte 10 did not come
+    Full,
+    // a read failed
+    Failed,
+}
 
 // How many bytes stand before the first byte 10; all of them where there is none.
 fn line_length(s: &[u8]) -> usize
@@ -27,26 +44,30 @@ fn line_length(s: &[u8]) -> usize
     i
 }
 
-// Reads until byte 10 came, buf is full, the input ends or a read fails, in whatever pieces the
-// bytes come, and answers how many stand in buf. It does not wait for more after byte 10.
-fn read_line(buf: &mut [u8]) -> usize
-    ensures { λ r. ⌜ r ≤ length (now (buf .exit)) ⌝ }
+// Reads until byte 10 came, buf is full, the input is over or a read fails, in whatever pieces the
+// bytes come. It does not wait for more after byte 10.
+fn read_line(buf: &mut [u8]) -> Input
+    ensures { λ r. ⌜ Holds (now (buf .exit)) r ⌝ }
 {
     let n = buf.len();
     let mut have: usize = 0;
     while have < n {
         let got = libc::read(STDIN_FILENO, &mut buf[have..n]);
+        if got < 0 {
+            return Input::Failed;
+        }
         let more = io::count(got, &buf[have..n]);
         if more == 0 {
-            return have;
+            return Input::Over(have);
         }
         let from = have;
         have += more;
-        if line_length(&buf[from..have]) < more {
-            return have;
+        let place = from + line_length(&buf[from..have]);
+        if place < have {
+            return Input::Ended(place);
         }
     }
-    have
+    Input::Full
 }
 
 // Writes bytes to standard output. Where that fails, says so on standard error: a program has no
@@ -57,26 +78,44 @@ fn say(bytes: &[u8]) {
     }
 }
 
+// Writes what is printed of a word to the front of out, and gives the count of bytes.
+fn render(word: &[u8], out: &mut [u8]) -> usize
+    requires { ⌜ longestText ≤ length (now out) ⌝ }
+    ensures { λ r. ⌜ take r (now (out .exit)) ≡ printed (now (word .entry)) ⌝ }
+    ensures { λ r. ⌜ r ≤ length (now (out .exit)) ⌝ }
+{
+    let answer = report::report(word, out);
+    match answer {
+        Counted::Refused(r) => writers::inner::put_text(out, 0, &TOO_MANY),
+        Counted::Count(size) => size as usize,
+    }
+}
+
 // Prints the report of a word; refused,7 alone where it has more runs than the program holds.
 fn print_report(word: &[u8]) {
     let mut out = [0u8; report::LONGEST_REPORT];
-    let answer = report::report(word, &mut out);
-    match answer {
-        Counted::Refused(_) => {
-            say(b"refused,7\n");
-        }
-        Counted::Count(size) => {
-            let zero: usize = 0;
-            let n = size as usize;
-            say(&out[zero..n]);
-        }
-    }
+    let n = render(word, &mut out);
+    let zero: usize = 0;
+    say(&out[zero..n]);
+}
+
+// Prints the report of bytes that filled the buffer: they are the start of a line that is too long.
+fn print_long(bytes: &[u8])
+    requires { ⌜ programLimit < length (now bytes) ⌝ }
+{
+    print_report(bytes);
 }
 
 fn main() {
     let mut buf = [0u8; ENOUGH];
-    let have = read_line(&mut buf);
     let zero: usize = 0;
-    let n = line_length(&buf[zero..have]);
-    print_report(&buf[zero..n]);
+    let input = read_line(&mut buf);
+    match input {
+        Input::Ended(n) => print_report(&buf[zero..n]),
+        Input::Over(n) => print_report(&buf[zero..n]),
+        Input::Full => print_long(&buf),
+        Input::Failed => {
+            io::write_all(STDERR_FILENO, b"bench: the input could not be read\n");
+        }
+    }
 }

@@ -5,7 +5,7 @@ use Rattle.periods.specs.Period.{smallestPeriod, repetition?}
 use Rattle.periods.specs.Part.{partOutcome, description}
 use Rattle.factors.specs.Verdict.{verdict}
 use Rattle.repetitions.specs.Judge.{splitOutcome}
-use Rattle.cegridom.specs.Export.{resultOf, indexOf, valueOf}
+use Rattle.cegridom.specs.Export.{resultOf, indexOf, valueOf, version}
 use Rattle.periods.proofs.Words.{word-aabaabaa, word-ababa}
 
 -- "ababa * | 5 (unit 2, turns 2, rest 1)": accepted, with four values
@@ -21,3 +21,7 @@ part-values = refl
 pub judged-2-2-8 : resultOf (splitOutcome word-aabaabaa (2 ∷ 2 ∷ 8 ∷ [])) ∷ indexOf (splitOutcome word-aabaabaa (2 ∷ 2 ∷ 8 ∷ [])) ∷ valueOf 0 (splitOutcome word-aabaabaa (2 ∷ 2 ∷ 8 ∷ [])) ∷ [] ≡ 3 ∷ 2 ∷ 0 ∷ []
 unfolding splitOutcome verdict repetition? smallestPeriod
 judged-2-2-8 = refl
+
+-- 0.2
+pub version-is-0-2 : version ≡ 2
+version-is-0-2 = refl

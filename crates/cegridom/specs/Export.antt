@@ -1,4 +1,4 @@
--- What the exported functions give for an outcome: the result, the index and the values.
+-- What the exported functions give for an outcome: the result, the index and the values; and the version of the interface.
 use Prim.Native.Nat.{ℕ}
 use lib.ListN.{getD}
 use Rattle.answers.specs.Outcome.{Outcome, accepted, refused}
@@ -17,3 +17,7 @@ indexOf (refused n i) = i
 abbrev pub valueOf : ℕ → Outcome → ℕ
 valueOf k (accepted v) = getD v k 0
 valueOf k (refused n i) = 0
+
+-- 1,000 × the major number + the minor one, of version 0.2
+abbrev pub version : ℕ
+version = 2

@@ -14,10 +14,13 @@ ghost use Rattle.repetitions.specs.BestSplit.{bestOutcome, bestEndsTable, bestW
 ghost use Rattle.repetitions.specs.Judge.{splitOutcome, SplitMeaning};
 ghost use Rattle.paths.specs.Calls.{pathOutcome, pathTable, PathMeaning, pathJudgedOutcome, PathJudgedMeaning};
 ghost use Rattle.plans.specs.Calls.{planView, writeOutcome, writeTable, WriteMeaning, readOutcome, readTable, ReadMeaning};
-ghost use Rattle.cegridom.specs.Export.{resultOf, indexOf, valueOf};
+ghost use Rattle.cegridom.specs.Export.{resultOf, indexOf, valueOf, version};
 use answers::Counted;
 use periods::PartAnswer;
 use plans::PlanAnswer;
+
+// The version of this interface, 1,000 × major + minor.
+pub const VERSION: u32 = 2;
 
 // Takes an answer that gives one number apart.
 fn hand_over(answer: Counted, count: &mut u32, index: &mut u32) -> u32
@@ -277,4 +280,12 @@ pub extern "C" fn cegridom_read_plan(
 {
     let answer = plans::read_plan(s, table);
     hand_over_plan(answer, n, count, index)
+}
+
+// Version: that of the archive, which a host compares with its header's.
+#[no_mangle]
+pub extern "C" fn cegridom_version() -> u32
+    ensures { λ r. ⌜ r ≡ version ⌝ }
+{
+    VERSION
 }

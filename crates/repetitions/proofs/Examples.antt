@@ -214,6 +214,11 @@ pub best-a-place-short-work : bestWork word-aaaa 2 (replicate 20 9) ≡ 0 ∷ no
 unfolding bestWork sizes repetition? smallestPeriod
 best-a-place-short-work = refl
 
+-- "4,294,967,295 where none exists", then 3×(n+1) zeros: ab has no split, nor has a
+pub best-none-is-the-number : bestWork word-ab 1 (replicate 12 9) ≡ 0 ∷ 4294967295 ∷ 4294967295 ∷ replicate 9 0
+unfolding bestWork cell sizes repetition? smallestPeriod
+best-none-is-the-number = refl
+
 -- ---- judged splits
 
 -- "Judged on aabaabaa: 3,8 gives 4 at index 1; 2,2,8 gives 3 at index 2; 2,9 gives 3 at index 2; no ends gives 5."

@@ -16,8 +16,7 @@ use Rattle.factors.proofs.Optimal.{best-unique}
 use Rattle.repetitions.specs.Block.{Block}
 use Rattle.finder.specs.Find.{recordLimit}
 use Rattle.report.specs.Text.{programLimit, fewestName, mostName, blockLines, text, reportOutcome, reportTable}
-use Rattle.writers.specs.Line.{line}
-use Rattle.writers.specs.Line.{printedOutcome, printedTable}
+use Rattle.writers.specs.Line.{line, printedOutcome, printedTable}
 use Rattle.report.specs.Meaning.{SplitPrinted, none-printed, best-printed, Printed, refused-alone, all-lines, Held, ReportMeaning, too-many-runs, too-few, reported}
 use Rattle.report.proofs.Reports.{Promised, promised-many, promised-text, text-printed}
 

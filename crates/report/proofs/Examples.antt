@@ -1,18 +1,20 @@
 -- Document 01's printout, byte for byte, and the texts of the shortest words and of a word that is too long, computed from the definitions. Assumes nothing.
-use mathlib.Core.Path.{_≡_, refl}
+use mathlib.Core.Path.{_≡_, refl, ap, _∙_}
 use mathlib.Core.List.{List, [], _∷_, _++_}
 use Prim.Native.Nat.{ℕ}
-use lib.ListN.{replicate}
+use native.Mathlib.Omega.{arith}
+use lib.ListN.{length, replicate}
 use Rattle.answers.specs.Outcome.{accepted, refused}
 use Rattle.periods.specs.Period.{smallestPeriod, repetition?}
 use Rattle.runs.specs.Table.{run?, runBetween, rowsAt, rowsBefore, runsOf}
 use Rattle.factors.specs.Factorization.{cell, bestEnds}
 use Rattle.decimals.specs.Decimal.{digits, digitCount}
 use Rattle.runs.specs.Number.{firstNumber, runNumber}
-use Rattle.report.specs.Text.{refusedText, runLines, blockLine, blockLines, splitText, text, reportOutcome, reportTable}
-use Rattle.writers.specs.Line.{fieldsOf}
-use Rattle.writers.specs.Line.{line}
+use Rattle.report.specs.Text.{refusedText, runLines, blockLine, blockLines, splitText, text, reportOutcome, reportTable, fewestName, mostName, passesName}
+use Rattle.writers.specs.Line.{fieldsOf, line}
 use Rattle.periods.proofs.Words.{word-aabaabaa}
+use Rattle.report.proofs.Splits.{text-is}
+use Rattle.report.proofs.Reports.{text-refused}
 
 -- the ten lines, one to a line here
 abbrev tenLines : List ℕ
@@ -48,10 +50,24 @@ pub text-of-a : text (97 ∷ []) ≡
 unfolding text line fieldsOf runLines blockLine blockLines splitText digits digitCount runsOf rowsBefore rowsAt runBetween run? repetition? smallestPeriod cell bestEnds runNumber firstNumber
 text-of-a = refl
 
--- "a longer line prints refused,1 alone"
-pub text-of-1025 : text (replicate 1025 97) ≡ refusedText
-unfolding text
-text-of-1025 = refl
+-- "The program holds 1,024 passes; a longer line prints refused,1 alone": r e f u s e d , 1 and byte 10 for every word of 1,025 symbols, all lines for every
+-- word of 1,024
+pub refused-at-1025 : (w : List ℕ) → length w ≡ 1025 → text w ≡ 114 ∷ 101 ∷ 102 ∷ 117 ∷ 115 ∷ 101 ∷ 100 ∷ 44 ∷ 49 ∷ 10 ∷ []
+refused-at-1025 w e = text-refused w (omega arith)
+
+pub taken-at-1024 : (w : List ℕ) → length w ≡ 1024
+    → text w ≡ line passesName (1024 ∷ []) ++ (runLines 0 (runsOf w) ++ (splitText w 1 fewestName ++ splitText w 2 mostName))
+taken-at-1024 w e =
+    text-is w (omega arith) ∙ ap (λ (n : ℕ). line passesName (n ∷ []) ++ (runLines 0 (runsOf w) ++ (splitText w 1 fewestName ++ splitText w 2 mostName))) e
+
+-- aabaabaa's ten lines in a table with two places more, and their count
+pub report-of-aabaabaa : reportOutcome word-aabaabaa 133 ≡ accepted (133 ∷ [])
+unfolding reportOutcome text line fieldsOf runLines blockLine blockLines splitText digits digitCount runsOf rowsBefore rowsAt runBetween run? repetition? smallestPeriod cell bestEnds runNumber firstNumber
+report-of-aabaabaa = refl
+
+pub report-of-aabaabaa-into : reportTable word-aabaabaa (replicate 135 7) ≡ tenLines ++ (7 ∷ 7 ∷ [])
+unfolding reportTable text line fieldsOf runLines blockLine blockLines splitText digits digitCount runsOf rowsBefore rowsAt runBetween run? repetition? smallestPeriod cell bestEnds runNumber firstNumber
+report-of-aabaabaa-into = refl
 
 -- the empty word's 25 bytes, and one place too few
 pub report-of-empty : reportOutcome [] 25 ≡ accepted (25 ∷ [])

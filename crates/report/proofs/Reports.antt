@@ -1,11 +1,12 @@
 -- The report by its tests, and what it says: `report-means`. The runs call refuses a word that the program holds only if it has more runs than there are
 -- records, and else leaves the records of its runs. Assumes nothing.
 use mathlib.Core.Path.{_≡_, refl, sym, ap, _∙_}
+use mathlib.Core.Bool.{true, false}
 use mathlib.Core.List.{List, [], _∷_, _++_}
 use Prim.Native.Nat.{ℕ, _*_, _≤_, _<_}
 use native.Mathlib.Omega.{arith}
 use native.Mathlib.Decide.{decLt}
-use borrow.Author.Tests.{lt-ltb, le-ltb}
+use borrow.Author.Tests.{lt-ltb, le-ltb, ltb-false}
 use lib.ListN.{length, drop, length-append, length-drop}
 use Rattle.laws.proofs.Stores.{sets-front}
 use Rattle.answers.proofs.Claims.{refused-accepted}
@@ -26,7 +27,7 @@ use Rattle.repetitions.specs.Block.{Block}
 use Rattle.repetitions.specs.BestSplit.{lastCell}
 use Rattle.repetitions.proofs.BestClaims.{word-answers}
 use Rattle.finder.specs.Find.{recordLimit}
-use Rattle.report.specs.Text.{programLimit, fewestName, mostName, refusedText, splitLines, splitText, text, reportOutcome, reportTable}
+use Rattle.report.specs.Text.{programLimit, fewestName, mostName, refusedText, splitLines, splitText, text, reportOutcome, reportTable, tooMany}
 use Rattle.report.specs.Records.{longestText}
 use Rattle.writers.specs.Line.{printedOutcome, printedTable}
 use Rattle.report.specs.Meaning.{SplitPrinted, none-printed, best-printed, Printed, refused-alone, all-lines, Held, ReportMeaning, too-many-runs, too-few, reported}
@@ -67,9 +68,17 @@ module _ (w z : List ℕ) (held : length w ≤ programLimit) (places : length z 
 
 -- ---- the report, by its tests
 
-text-refused : (w : List ℕ) → programLimit < length w → text w ≡ refusedText
+pub text-refused : (w : List ℕ) → programLimit < length w → text w ≡ refusedText
 unfolding text
 text-refused w h = rw (lt-ltb programLimit (length w) h) refl
+
+-- no text of a word whose runs are held is longer than the longest
+text-fits : (w : List ℕ) → tooMany w ≡ false → length (text w) ≤ longestText
+text-fits w e = go (decLt programLimit (length w))
+  where
+    go : Dec (programLimit < length w) → length (text w) ≤ longestText
+    go (yes h) = omega (arith, ap length (text-refused w h))
+    go (no h) = text-long w (omega arith) (ltb-false recordLimit (length (runsOf w)) (rw (le-ltb programLimit (length w) (omega arith)) at e))
 
 module _ (w t : List ℕ) where
   -- what it promises
@@ -141,19 +150,11 @@ module _ (w t : List ℕ) where
   pub report-answered : (o : Outcome) (u : List ℕ) → Promised w t o u → (o ≡ reportOutcome w (length t)) × ((u ≡ reportTable w t) × ReportMeaning w t o u)
   report-answered o u P = (P .0, (P .1, rw (P .0, P .1) report-means))
 
-  -- CLAIM: in so many places it answers 7 only where there are more runs than records
-  pub report-fits : length (runsOf w) ≤ recordLimit → longestText ≤ length t → reportOutcome w (length t) ≡ accepted (length (text w) ∷ [])
-  report-fits k h = go (decLt programLimit (length w))
-    where
-      fits : (s : List ℕ) → length s ≤ longestText → printedOutcome s (length t) ≡ accepted (length s ∷ [])
-      fits s l = rw (le-ltb (length t) (length s) (omega arith)) refl
+  -- CLAIM: it answers 7 where there are more runs than records; else so many places are enough, and hold the text
+  pub report-many : tooMany w ≡ true → refused 7 0 ≡ reportOutcome w (length t)
+  unfolding reportOutcome
+  report-many e = rw e refl
 
-      go : Dec (programLimit < length w) → reportOutcome w (length t) ≡ accepted (length (text w) ∷ [])
-      go (yes l) = sym (promised-long w t l .0) ∙ fits refusedText (omega arith) ∙ ap (λ (s : List ℕ). accepted (length s ∷ [])) (sym (text-refused w l))
-      go (no l) = sym (promised-printed w t (omega arith) k .0) ∙ fits (text w) (text-long w (omega arith) k)
-
--- an answer of so many bytes has them in the lent table
-pub reported-count : (w t u : List ℕ) (n : ℕ) → ReportMeaning w t (accepted (n ∷ [])) u → n ≤ length t
-reported-count w t u n (too-many-runs a b c d e f) = absurd (refused-accepted (accepted (n ∷ [])) 7 0 (n ∷ []) e refl)
-reported-count w t u n (too-few H s P a e f) = absurd (refused-accepted (accepted (n ∷ [])) 7 0 (n ∷ []) e refl)
-reported-count w t u n (reported H s P a e f) = let q : n ≡ length s = cc in omega arith
+  pub report-fits : tooMany w ≡ false → longestText ≤ length t → Promised w t (accepted (length (text w) ∷ [])) (text w ++ drop (length (text w)) t)
+  unfolding reportOutcome reportTable
+  report-fits e h = let l : length (text w) ≤ length t = omega (arith, text-fits w e) in rw (e, le-ltb (length t) (length (text w)) l) (refl, refl)

@@ -22,6 +22,10 @@ pub runs-a-place-short : runsOutcome word-aabaabaa 11 ≡ refused 7 0
 unfolding runsOutcome runsOf rowsBefore rowsAt runBetween run? repetition? smallestPeriod
 runs-a-place-short = refl
 
+pub runs-written-in-aabaabaa : runsTable word-aabaabaa (replicate 13 9) ≡ 1 ∷ 2 ∷ 1 ∷ 1 ∷ 8 ∷ 3 ∷ 4 ∷ 5 ∷ 1 ∷ 7 ∷ 8 ∷ 1 ∷ 9 ∷ []
+unfolding runsTable runsOf rowsBefore rowsAt runBetween run? repetition? smallestPeriod
+runs-written-in-aabaabaa = refl
+
 -- what follows the records stays
 pub runs-written-in-aa : runsTable word-aa (9 ∷ 9 ∷ 9 ∷ 9 ∷ []) ≡ 1 ∷ 2 ∷ 1 ∷ 9 ∷ []
 unfolding runsTable runsOf rowsBefore rowsAt runBetween run? repetition? smallestPeriod
