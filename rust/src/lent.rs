@@ -80,6 +80,19 @@ fn count(call: impl FnOnce(&mut u32, &mut u32) -> u32) -> Result<usize, Refusal>
     values(|[count], index| call(count, index)).map(|[count]| count as usize)
 }
 
+/// The version of the archive, major and minor. It is the crate's own where the two belong together;
+/// nothing else checks that the declarations in [`raw`] fit.
+///
+/// ```
+/// let (major, minor) = cegridom::version();
+/// println!("libcegridom {major}.{minor}");
+/// ```
+pub fn version() -> (u32, u32) {
+    // SAFETY: the function takes nothing and answers always.
+    let number = unsafe { raw::cegridom_version() };
+    (number / raw::MAJOR, number % raw::MAJOR)
+}
+
 /// The unit, the turns and the rest of the symbols at the positions `first` to `last`, and whether
 /// they are a block.
 ///

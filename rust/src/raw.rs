@@ -39,7 +39,14 @@ pub const RUN_PLACES: usize = 3;
 /// The numbers of one block in a path: the run number, the end.
 pub const STEP_PLACES: usize = 2;
 
+/// What the major version is multiplied by in [`cegridom_version`].
+pub const MAJOR: u32 = 1000;
+
 extern "C" {
+    /// Behind [`version`](crate::version): [`MAJOR`] times the major version of the archive, plus
+    /// the minor one.
+    pub fn cegridom_version() -> u32;
+
     /// Behind [`part`](crate::part). `*block` is 1 for a block, else 0. Refusals: 1, 6.
     pub fn cegridom_part(
         word: *const u8,

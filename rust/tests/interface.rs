@@ -85,6 +85,14 @@ fn sizes_do_not_overflow() {
     assert_eq!(cegridom::most_ends(usize::MAX), usize::MAX / 2);
 }
 
+#[test]
+fn the_archive_has_the_version_of_the_crate() {
+    let (major, minor) = cegridom::version();
+    let number = |text: &str| text.parse::<u32>().unwrap();
+    assert_eq!(major, number(env!("CARGO_PKG_VERSION_MAJOR")));
+    assert_eq!(minor, number(env!("CARGO_PKG_VERSION_MINOR")));
+}
+
 // ---- the example
 
 /// What the example prints for some bytes on standard input.
