@@ -1,7 +1,10 @@
 -- What the exported functions give for an outcome: the result, the index and the values; and the version of the interface.
 use Prim.Native.Nat.{ℕ}
-use lib.ListN.{getD}
+use mathlib.Core.List.{List}
+use lib.ListN.{length, getD}
 use Rattle.answers.specs.Outcome.{Outcome, accepted, refused}
+use Rattle.repetitions.specs.BestSplit.{bestOutcome, BestMeaning}
+use Rattle.paths.specs.Calls.{pathOutcome, PathMeaning}
 
 -- 0 for accepted, else the refusal's number
 abbrev pub resultOf : Outcome → ℕ
@@ -17,6 +20,13 @@ indexOf (refused n i) = i
 abbrev pub valueOf : ℕ → Outcome → ℕ
 valueOf k (accepted v) = getD v k 0
 valueOf k (refused n i) = 0
+
+-- the meanings of best split and of path of a split, of the outcome that is handed over
+abbrev pub BestHanded : List ℕ → ℕ → List ℕ → List ℕ → List ℕ → List ℕ → Type 0
+BestHanded w choice e t x y = BestMeaning w choice e t (bestOutcome w choice e t) x y
+
+abbrev pub PathHanded : List ℕ → List ℕ → List ℕ → List ℕ → Type 0
+PathHanded w ends t u = PathMeaning w ends t (pathOutcome w ends (length t)) u
 
 -- 1,000 × the major number + the minor one, of version 0.2
 abbrev pub version : ℕ

@@ -10,11 +10,11 @@ ghost use Rattle.answers.specs.Outcome.{countedView};
 ghost use Rattle.periods.specs.Part.{partView, partOutcome, PartMeaning};
 ghost use Rattle.runs.specs.Calls.{runsOutcome, runsTable, RunsMeaning};
 ghost use Rattle.nodes.specs.Calls.{nodesOutcome, nodesTable, NodesMeaning};
-ghost use Rattle.repetitions.specs.BestSplit.{bestOutcome, bestEndsTable, bestWork, BestMeaning};
+ghost use Rattle.repetitions.specs.BestSplit.{bestOutcome, bestEndsTable, bestWork};
 ghost use Rattle.repetitions.specs.Judge.{splitOutcome, SplitMeaning};
-ghost use Rattle.paths.specs.Calls.{pathOutcome, pathTable, PathMeaning, pathJudgedOutcome, PathJudgedMeaning};
+ghost use Rattle.paths.specs.Calls.{pathOutcome, pathTable, pathJudgedOutcome, PathJudgedMeaning};
 ghost use Rattle.plans.specs.Calls.{planView, writeOutcome, writeTable, WriteMeaning, readOutcome, readTable, ReadMeaning};
-ghost use Rattle.cegridom.specs.Export.{resultOf, indexOf, valueOf, version};
+ghost use Rattle.cegridom.specs.Export.{resultOf, indexOf, valueOf, BestHanded, PathHanded, version};
 use answers::Counted;
 use periods::PartAnswer;
 use plans::PlanAnswer;
@@ -182,7 +182,7 @@ pub extern "C" fn cegridom_best_split(
     ensures index { λ _. ⌜ now (index .exit) ≡ indexOf (bestOutcome (now (w .entry)) choice (now (ends .entry)) (now (work .entry))) ⌝ }
     ensures written { λ _. ⌜ now (ends .exit) ≡ bestEndsTable (now (w .entry)) choice (now (ends .entry)) (now (work .entry)) ⌝ }
     ensures worked { λ _. ⌜ now (work .exit) ≡ bestWork (now (w .entry)) choice (now (work .entry)) ⌝ }
-    ensures meaning { λ _. ⌜ BestMeaning (now (w .entry)) choice (now (ends .entry)) (now (work .entry)) (bestOutcome (now (w .entry)) choice (now (ends .entry)) (now (work .entry))) (now (ends .exit)) (now (work .exit)) ⌝ }
+    ensures meaning { λ _. ⌜ BestHanded (now (w .entry)) choice (now (ends .entry)) (now (work .entry)) (now (ends .exit)) (now (work .exit)) ⌝ }
 {
     let answer = repetitions::best_split(w, choice, ends, work);
     hand_over(answer, size, index)
@@ -219,7 +219,7 @@ pub extern "C" fn cegridom_path_of_split(
     ensures blocks { λ _. ⌜ now (blocks .exit) ≡ valueOf 0 (pathOutcome (now (w .entry)) (now (ends .entry)) (length (now (table .entry)))) ⌝ }
     ensures index { λ _. ⌜ now (index .exit) ≡ indexOf (pathOutcome (now (w .entry)) (now (ends .entry)) (length (now (table .entry)))) ⌝ }
     ensures written { λ _. ⌜ now (table .exit) ≡ pathTable (now (w .entry)) (now (ends .entry)) (now (table .entry)) ⌝ }
-    ensures meaning { λ _. ⌜ PathMeaning (now (w .entry)) (now (ends .entry)) (now (table .entry)) (pathOutcome (now (w .entry)) (now (ends .entry)) (length (now (table .entry)))) (now (table .exit)) ⌝ }
+    ensures meaning { λ _. ⌜ PathHanded (now (w .entry)) (now (ends .entry)) (now (table .entry)) (now (table .exit)) ⌝ }
 {
     let answer = paths::path_of_split(w, ends, table);
     hand_over(answer, blocks, index)

@@ -29,6 +29,15 @@ sizeEnds (reached s p) best e = cond (ltb (length e) s) e (best ++ drop s e)
 abbrev pub lastCell : List ℕ → ℕ → Cell
 lastCell w choice = cell (choiceOf choice) (block? anyPeriod turns w) (length w)
 
+-- the ends' table and the working table, where 1, 8 and 9 are not met: "The working table afterwards holds in its first n+1 places the best size of each
+-- leading length 0 to n, 4,294,967,295 where none exists; the following 3×(n+1) places hold 0." Also after 2 and 7.
+abbrev pub settledEnds : List ℕ → ℕ → List ℕ → List ℕ
+settledEnds w choice e = sizeEnds (lastCell w choice) (bestEnds (choiceOf choice) (block? anyPeriod turns w) (length w)) e
+
+abbrev pub settledWork : List ℕ → ℕ → List ℕ → List ℕ
+settledWork w choice t =
+    sizes (choiceOf choice) (block? anyPeriod turns w) (length w) ++ (replicate (3 * (length w + 1)) 0 ++ drop (rows * (length w + 1)) t)
+
 -- "1: n above 4,096. 8: a choice other than 1 or 2. 9: a working table under 4×(n+1) places." One of these is met, or the rest decides.
 abbrev pub tested : {A : Type 0} → List ℕ → ℕ → ℕ → A → A → A → A → A
 tested w choice space long bad short rest =
@@ -42,14 +51,11 @@ bestOutcome w choice e t =
 
 unfoldable pub bestEndsTable : List ℕ → ℕ → List ℕ → List ℕ → List ℕ
 bestEndsTable w choice e t =
-    tested w choice (length t) e e e (sizeEnds (lastCell w choice) (bestEnds (choiceOf choice) (block? anyPeriod turns w) (length w)) e)
+    tested w choice (length t) e e e (settledEnds w choice e)
 
--- "The working table afterwards holds in its first n+1 places the best size of each leading length 0 to n, 4,294,967,295 where none exists; the following
--- 3×(n+1) places hold 0." Also after 2 and 7.
 unfoldable pub bestWork : List ℕ → ℕ → List ℕ → List ℕ
 bestWork w choice t =
-    tested w choice (length t) t t t
-    (sizes (choiceOf choice) (block? anyPeriod turns w) (length w) ++ (replicate (3 * (length w + 1)) 0 ++ drop (rows * (length w + 1)) t))
+    tested w choice (length t) t t t (settledWork w choice t)
 
 -- ---- demand 3
 

@@ -1,16 +1,25 @@
 -- What the inner functions of best split go by in the working table.
+use mathlib.Core.Path.{_≡_}
 use mathlib.Core.Bool.{Bool, cond}
 use mathlib.Core.List.{List, [], _∷_, _++_}
-use Prim.Native.Nat.{ℕ, _+_, _-_, _*_}
+use Prim.Native.Nat.{ℕ, _+_, _-_, _*_, _≤_, _<_}
 use lib.Dec.{leb, ltb, eqb}
 use lib.ListN.{length, getD, take, drop}
 use Rattle.answers.specs.declared.Refusal.the-variants.{NoFactorization, TooFewPlaces}
-use Rattle.answers.specs.Outcome.{Outcome, accepted, refusal}
-use Rattle.factors.specs.Table.{none, endsBack}
+use Rattle.answers.specs.Outcome.{Outcome, accepted, refusal, limit}
+use Rattle.factors.specs.Table.{none, rows, endsBack, Linked}
 
 -- the place of the unit of the part of d + 1 symbols after a boundary, in row 2
 abbrev pub placeOfUnit : ℕ → ℕ → ℕ
 placeOfUnit n d = n + 1 + (n + 1) + d
+
+-- the units of the parts after boundary j never fall as the part grows
+abbrev pub UnitsRise : ℕ → ℕ → List ℕ → Type 0
+UnitsRise n j t = (d e : ℕ) → d ≤ e → e < n - j → getD t (placeOfUnit n d) 0 ≤ getD t (placeOfUnit n e) 0
+
+-- the word is within the limit, and the working table has its four rows
+abbrev pub Workable : List ℕ → List ℕ → Type 0
+Workable w t = (length w ≤ limit) × (rows * (length w + 1) ≤ length t)
 
 -- whether that part is a repetition of k turns
 abbrev pub longEnough : ℕ → ℕ → List ℕ → ℕ → Bool
@@ -19,6 +28,10 @@ longEnough k n t d = leb (k * getD t (placeOfUnit n d) 0) (d + 1)
 -- row 1 of a table
 abbrev pub rowOne : ℕ → List ℕ → List ℕ
 rowOne n t = take (n + 1 + (n + 1) - (n + 1)) (drop (n + 1) t)
+
+-- where the whole word has a size, the previous boundaries lead back from its end in so many steps
+abbrev pub Leads : ℕ → List ℕ → Type 0
+Leads n t = (getD t n 0 ≡ none → ⊥) → Linked (rowOne n t) (getD t n 0) n
 
 -- the answer from the size that stands for the whole word, where so many places are lent for the ends
 abbrev pub handedOutcome : ℕ → ℕ → Outcome

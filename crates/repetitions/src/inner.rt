@@ -1,15 +1,14 @@
 // For this crate's calls: the caller shows what each function requires.
 ghost use mathlib.Core.Path.{_≡_};
-ghost use mathlib.Core.List.{_++_};
-ghost use Prim.Native.Nat.{ℕ, _≤_, _<_, _+_, _-_, _*_};
-ghost use lib.ListN.{length, getD, drop, replicate};
+ghost use Prim.Native.Nat.{_≤_, _+_, _-_, _*_};
+ghost use lib.ListN.{length, getD};
 ghost use Rattle.answers.specs.Outcome.{countedView, limit};
 ghost use Rattle.periods.specs.Period.{anyPeriod, turns};
-ghost use Rattle.factors.specs.Factorization.{choiceOf, bestEnds};
-ghost use Rattle.factors.specs.Table.{none, rows, sizes, spread, filled, Linked};
+ghost use Rattle.factors.specs.Factorization.{choiceOf};
+ghost use Rattle.factors.specs.Table.{rows, spread, filled};
 ghost use Rattle.repetitions.specs.Block.{block?};
-ghost use Rattle.repetitions.specs.Fill.{placeOfUnit, longEnough, rowOne, handedOutcome, handedEnds};
-ghost use Rattle.repetitions.specs.BestSplit.{sizeOutcome, sizeEnds, lastCell};
+ghost use Rattle.repetitions.specs.Fill.{longEnough, UnitsRise, Workable, Leads, handedOutcome, handedEnds};
+ghost use Rattle.repetitions.specs.BestSplit.{sizeOutcome, settledEnds, settledWork, lastCell};
 use answers::Counted;
 use answers::Refusal;
 use factors::NONE;
@@ -18,7 +17,7 @@ use factors::NONE;
 // has the units of the parts after boundary j; they never fall, so the first that is too long for
 // any part ends the work.
 fn spread(work: &mut [u32], n: usize, choice: u32, j: usize, size: u32)
-    requires { ⌜ (n ≤ limit) × (j ≤ n) × (rows * (n + 1) ≤ length (now work)) × ((d e : ℕ) → d ≤ e → e < n - j → getD (now work) (placeOfUnit n d) 0 ≤ getD (now work) (placeOfUnit n e) 0) ⌝ }
+    requires { ⌜ (n ≤ limit) × (j ≤ n) × (rows * (n + 1) ≤ length (now work)) × UnitsRise n j (now work) ⌝ }
     ensures { λ _. ⌜ now (work .exit) ≡ spread (choiceOf choice) n j size (longEnough turns n (now (work .entry))) (n - j) (now (work .entry)) ⌝ }
 {
     let row = n + 1;
@@ -42,7 +41,7 @@ fn spread(work: &mut [u32], n: usize, choice: u32, j: usize, size: u32)
 // Fills the working table: the best size of each prefix length, and the previous boundary that it
 // came from. Boundaries in rising order; one that is not reached offers nothing.
 fn fill(w: &[u8], choice: u32, work: &mut [u32])
-    requires { ⌜ (length (now w) ≤ limit) × (rows * (length (now w) + 1) ≤ length (now work)) ⌝ }
+    requires { ⌜ Workable (now w) (now work) ⌝ }
     ensures { λ _. ⌜ now (work .exit) ≡ filled (choiceOf choice) (block? anyPeriod turns (now (w .entry))) (length (now (w .entry))) (now (work .entry)) ⌝ }
 {
     let n = w.len();
@@ -68,7 +67,7 @@ fn fill(w: &[u8], choice: u32, work: &mut [u32])
 
 // Answers from a filled table, and writes the ends where there is a factorization and room for them.
 fn hand_out(work: &[u32], n: usize, ends: &mut [u32]) -> Counted
-    requires { ⌜ (n ≤ limit) × (n + 1 + (n + 1) ≤ length (now work)) × ((getD (now work) n 0 ≡ none → ⊥) → Linked (rowOne n (now work)) (getD (now work) n 0) n) ⌝ }
+    requires { ⌜ (n ≤ limit) × (n + 1 + (n + 1) ≤ length (now work)) × Leads n (now work) ⌝ }
     ensures { λ r. ⌜ countedView r ≡ handedOutcome (getD (now (work .entry)) n 0) (length (now (ends .entry))) ⌝ }
     ensures { λ _. ⌜ now (ends .exit) ≡ handedEnds n (now (work .entry)) (now (ends .entry)) ⌝ }
 {
@@ -89,10 +88,10 @@ fn hand_out(work: &[u32], n: usize, ends: &mut [u32]) -> Counted
 // Best split where 1, 8 and 9 are not met: fills the table, hands out the answer, and clears the row
 // of previous boundaries.
 pub(crate) fn settle(w: &[u8], choice: u32, ends: &mut [u32], work: &mut [u32]) -> Counted
-    requires { ⌜ (length (now w) ≤ limit) × (rows * (length (now w) + 1) ≤ length (now work)) ⌝ }
+    requires { ⌜ Workable (now w) (now work) ⌝ }
     ensures { λ r. ⌜ countedView r ≡ sizeOutcome (lastCell (now (w .entry)) choice) (length (now (ends .entry))) ⌝ }
-    ensures { λ _. ⌜ now (ends .exit) ≡ sizeEnds (lastCell (now (w .entry)) choice) (bestEnds (choiceOf choice) (block? anyPeriod turns (now (w .entry))) (length (now (w .entry)))) (now (ends .entry)) ⌝ }
-    ensures { λ _. ⌜ now (work .exit) ≡ sizes (choiceOf choice) (block? anyPeriod turns (now (w .entry))) (length (now (w .entry))) ++ (replicate (3 * (length (now (w .entry)) + 1)) 0 ++ drop (rows * (length (now (w .entry)) + 1)) (now (work .entry))) ⌝ }
+    ensures { λ _. ⌜ now (ends .exit) ≡ settledEnds (now (w .entry)) choice (now (ends .entry)) ⌝ }
+    ensures { λ _. ⌜ now (work .exit) ≡ settledWork (now (w .entry)) choice (now (work .entry)) ⌝ }
 {
     let n = w.len();
     fill(w, choice, work);
