@@ -1,4 +1,4 @@
--- The working table of a factorizer: four rows of n + 1 places. Record 0 has the best size of each prefix length 0 to n, row 1 the previous boundary that it came
+-- The working table of a factorizer: four rows of n + 1 places. Row 0 has the best size of each prefix length 0 to n, row 1 the previous boundary that it came
 -- from.
 use mathlib.Core.Path.{_≡_}
 use mathlib.Core.Bool.{Bool, cond, _||_}

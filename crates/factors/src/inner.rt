@@ -43,7 +43,7 @@ pub fn offer(work: &mut [u32], choice: u32, at: usize, back: usize, size: u32, j
 }
 
 // Writes the ends of the count blocks up to boundary j, the last one first, and goes on at the
-// previous boundary. About 50 bytes of stack a block.
+// previous boundary. 48 bytes of stack a block.
 pub fn write_ends(prev: &[u32], j: usize, count: usize, ends: &mut [u32])
     requires { ⌜ (Linked (now prev) count j) × (count ≤ length (now ends)) × (j < 2 ^ 32) ⌝ }
     ensures { λ _. ⌜ now (ends .exit) ≡ endsBack (now (prev .entry)) count j ++ drop count (now (ends .entry)) ⌝ }

@@ -1,5 +1,5 @@
--- Document 01's examples of the definitions that the contracts of this crate cite, computed: the starred sequences as one table with one claim, the two longest
--- sequences of letters, two paths node by node, the tie rule, and the judged proposals. Assumes nothing.
+-- Document 01's examples of the definitions that the contracts of this crate cite, computed: paths of splits, two paths node by node, judged paths. Assumes
+-- nothing.
 use mathlib.Core.Path.{_≡_, refl}
 use mathlib.Core.List.{List, [], _∷_}
 use Prim.Native.Nat.{ℕ, _≤_}

@@ -74,7 +74,7 @@ pub fn number(s: &[u8], at: usize) -> u32
 }
 
 // Whether a comma stands before a place and four digits from it on.
-pub fn field_at(s: &[u8], at: usize) -> bool
+pub(crate) fn field_at(s: &[u8], at: usize) -> bool
     requires { ⌜ (1 ≤ at) × (at + width ≤ length (now s)) ⌝ }
     ensures { λ r. ⌜ r ≡ field? (now (s .entry)) at ⌝ }
 {
@@ -88,7 +88,7 @@ pub fn field_at(s: &[u8], at: usize) -> bool
 }
 
 // Whether so many ends stand at their places, each after a comma.
-pub fn ends_at(s: &[u8], count: usize) -> bool
+pub(crate) fn ends_at(s: &[u8], count: usize) -> bool
     requires { ⌜ bytesFor count ≤ length (now s) ⌝ }
     ensures { λ r. ⌜ r ≡ ends? (now (s .entry)) count ⌝ }
 {

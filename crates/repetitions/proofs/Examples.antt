@@ -1,5 +1,5 @@
 -- Document 01's examples of the definitions that the contracts of this crate cite, computed: the starred sequences as one table with one claim, the two longest
--- sequences of letters, two paths node by node, the tie rule, and the judged proposals. Assumes nothing.
+-- sequences of letters, the tie rule, and the judged splits. Assumes nothing.
 use mathlib.Core.Path.{_≡_, refl, ap, ap₂}
 use mathlib.Core.Logic.{inl, inr}
 use mathlib.Core.Bool.{Bool, true, false, _&&_}

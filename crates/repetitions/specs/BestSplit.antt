@@ -9,7 +9,7 @@ use lib.ListN.{length, getD, take, drop, replicate}
 use Rattle.answers.specs.declared.Refusal.the-variants.{TooLong, NoFactorization, TooFewPlaces, BadChoice, ShortTable}
 use Rattle.answers.specs.Outcome.{Outcome, accepted, refused, refusal, limit}
 use Rattle.periods.specs.Period.{anyPeriod, turns}
-use Rattle.factors.specs.Factorization.{Factorization, size, Choice, choiceOf, AsGood, Best, Cell, unreachable, reached, cell, bestEnds}
+use Rattle.factors.specs.Factorization.{Factorization, size, Choice, fewest, most, choiceOf, AsGood, Best, Cell, unreachable, reached, cell, bestEnds}
 use Rattle.factors.specs.Table.{none, rows, sizes}
 use Rattle.repetitions.specs.Block.{Block, block?}
 
@@ -42,7 +42,7 @@ settledWork w choice t =
 abbrev pub tested : {A : Type 0} → List ℕ → ℕ → ℕ → A → A → A → A → A
 tested w choice space long bad short rest =
     cond (ltb limit (length w)) long
-    (cond (ltb choice 1 || ltb 2 choice) bad (cond (ltb space (rows * (length w + 1))) short rest))
+    (cond (ltb choice fewest || ltb most choice) bad (cond (ltb space (rows * (length w + 1))) short rest))
 
 -- e and t are the lent tables for the ends and for the work
 unfoldable pub bestOutcome : List ℕ → ℕ → List ℕ → List ℕ → Outcome

@@ -10,7 +10,7 @@ use Rattle.answers.specs.Outcome.{Outcome, accepted, refusal}
 use Rattle.periods.specs.Period.{part, smallestPeriod, anyPeriod, turns}
 use Rattle.runs.specs.declared.Record.{Record}
 use Rattle.runs.specs.Table.{runsOf, numbersOf}
-use Rattle.factors.specs.Factorization.{choiceOf, Cell, unreachable, reached, bestEnds}
+use Rattle.factors.specs.Factorization.{fewest, most, choiceOf, Cell, unreachable, reached, bestEnds}
 use Rattle.writers.specs.Line.{line}
 use Rattle.repetitions.specs.Block.{block?}
 use Rattle.repetitions.specs.BestSplit.{lastCell}
@@ -78,7 +78,7 @@ splitText w choice name = splitLines w name (lastCell w choice) (bestEnds (choic
 unfoldable pub text : List ℕ → List ℕ
 text w =
     cond (ltb programLimit (length w)) refusedText
-    (line passesName (length w ∷ []) ++ (runLines 0 (runsOf w) ++ (splitText w 1 fewestName ++ splitText w 2 mostName)))
+    (line passesName (length w ∷ []) ++ (runLines 0 (runsOf w) ++ (splitText w fewest fewestName ++ splitText w most mostName)))
 
 -- ---- the report: the text in lent bytes, with their count; 7 where there are too few, or more runs than the program holds records of
 

@@ -12,7 +12,7 @@ use decimals::COMMA;
 use decimals::LINE_END;
 
 // Stores a byte where there is a place for it.
-pub fn put_byte(out: &mut [u8], at: usize, b: u8) -> usize
+fn put_byte(out: &mut [u8], at: usize, b: u8) -> usize
     requires { ⌜ at < 2 ^ 32 ⌝ }
     ensures { λ r. ⌜ r ≡ at + 1 ⌝ }
     ensures { λ _. ⌜ now (out .exit) ≡ set (now (out .entry)) at b ⌝ }
@@ -39,7 +39,7 @@ pub fn put_text(out: &mut [u8], at: usize, s: &[u8]) -> usize
 }
 
 // Stores a comma and a number with no leading zeros.
-pub fn put_field(out: &mut [u8], at: usize, x: u32) -> usize
+fn put_field(out: &mut [u8], at: usize, x: u32) -> usize
     requires { ⌜ at < 2 ^ 30 ⌝ }
     ensures { λ r. ⌜ r ≡ at + length (comma ∷ plain x) ⌝ }
     ensures { λ _. ⌜ now (out .exit) ≡ sets (now (out .entry)) at (comma ∷ plain x) ⌝ }
