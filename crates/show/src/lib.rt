@@ -1,6 +1,8 @@
 // Text on standard output for the test programs, and the generator of their words. No contract can
 // say what was written: a printing function gives how many bytes it handed to standard output, and
 // its contract fixes that count by the text.
+pub mod cases;
+
 ghost use mathlib.Core.Path.{_≡_};
 ghost use Prim.Native.Nat.{_≤_};
 ghost use lib.ListN.{length};
