@@ -7,10 +7,10 @@ use Rattle.vectors_plan.proofs.cut_everywhere.Statement.{statement}
 use Rattle.vectors_plan.proofs.cut_everywhere.Tie as tie
 
 abbrev Inv-loop : tie.InvT-loop
-Inv-loop s len₀ len = len ≤ length s
+Inv-loop s zero len₀ len = len ≤ length s
 
 abbrev μ-loop : tie.MeasureT-loop
-μ-loop s len₀ len = length s - len
+μ-loop s zero len₀ len = length s - len
 
 loop-holds : tie.Need-loop-holds Inv-loop μ-loop
 loop-holds c = omega arith
