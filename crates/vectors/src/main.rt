@@ -2,240 +2,227 @@
 // of these calls with the tables before and after, and words from a small generator. What is lent
 // holds 7 in every place before the call; a list shows the lent places after it. Each line is
 // compared with the file stdout.
-ghost use Prim.Native.Nat.{_≤_, _<_};
-
-mod show;
-
+use decimals::COMMA;
 use show::field;
-use show::list;
 use show::outcome;
 use show::text;
 
+// Which call a table of cases is for, and what the numbers of a row are.
+enum Call {
+    // the places that are lent
+    Runs,
+    // the places, and the position
+    Nodes,
+    // the places for ends, those for work, and the choice; none for both choices, with a place more
+    // than is needed
+    Best,
+    // the ends
+    Judge,
+    // the places, and the ends
+    Path,
+    // the path's numbers
+    JudgePath,
+}
+
 fn main() {
-    runs_cases();
-    node_cases();
-    best_cases();
-    best_refusals();
-    judge_cases();
-    path_cases();
-    judged_paths();
+    splits();
+    paths();
     long_words();
     too_long();
     generated();
 }
 
-fn runs_cases() {
-    runs_of(b"aabaabaa", 14);
-    runs_of(b"aabaabaa", 12);
-    runs_of(b"aabaabaa", 11);
-    runs_of(b"aabaabaa", 0);
-    runs_of(b"", 0);
-    runs_of(b"", 2);
-    runs_of(b"ab", 1);
-    runs_of(b"aaaa", 3);
-    runs_of(b"ababa", 4);
-    runs_of(b"abaabaababaabaabababa", 64);
-    runs_of(b"aabaabaacbbcbbcbb", 64);
+fn splits() {
+    rows(
+        Call::Runs,
+        b"aabaabaa,14|aabaabaa,12|aabaabaa,11|aabaabaa,0|,0|,2|ab,1|aaaa,3|ababa,4|\
+        abaabaababaabaabababa,64|aabaabaacbbcbbcbb,64|",
+    );
+    rows(
+        Call::Nodes,
+        b"aabaabaa,3,1|aabaabaa,3,2|aabaabaa,3,5|aabaabaa,1,6|aabaabaa,3,8|aabaabaa,2,8|\
+        aabaabaa,1,8|aabaabaa,3,0|aabaabaa,3,9|,0,1|aa,1,2|abaabaababaabaabababa,8,21|",
+    );
+    // The refusals in their order stand behind both choices; the working table afterwards shows
+    // whether it was used.
+    rows(
+        Call::Best,
+        b"|a|ab|aa|aaaa|aaaaa|ababa|baa|aabb|aabaabaa|abaabaababaabaabababa|aabaabaacbbcbbcbb|\
+        aabaabaa,2,36,0|aabaabaa,2,36,3|aabaabaa,2,35,3|aabaabaa,2,35,1|aabaabaa,1,36,2|\
+        aabaabaa,2,36,2|baa,0,18,2|,0,3,1|,0,4,1|",
+    );
 }
 
-fn runs_of(w: &[u8], places: usize) {
-    let mut table = [7u32; 64];
-    let zero: usize = 0;
-    if places <= 64 {
-        text(b"runs,");
-        text(w);
-        field(places as u32);
-        runs_in(w, &mut table[zero..places]);
+fn paths() {
+    rows(
+        Call::Judge,
+        b"aabaabaa|aabaabaa,8|aabaabaa,2,8|aabaabaa,3,8|aabaabaa,2,2,8|aabaabaa,2,9|aabaabaa,2|\
+        aabaabaa,2,4,8|aabaabaa,0|aabaabaa,4294967295||,1|\
+        aabaabaacbbcbbcbb,6,8,15,17|aabaabaacbbcbbcbb,2,8,15,17|",
+    );
+    rows(
+        Call::Path,
+        b"aabaabaa,2,8|aabaabaa,3,2,8|aabaabaa,2,2,8|aabaabaa,1,2,8|aabaabaa,1,3,8|aabaabaa,0,2,9|\
+        aabaabaa,3,2|aabaabaacbbcbbcbb,4,6,8,15,17|abaabaababaabaabababa,5,6,10,16,21|",
+    );
+    rows(
+        Call::JudgePath,
+        b"aabaabaa,1,2,2,8|aabaabaa,2,8|aabaabaa,1,2,1,8|aabaabaa,1,2,9,8|aabaabaa,1,2,5,8|\
+        aabaabaa,0,8|aabaabaa,1,2,2|aabaabaa,1,2,2,2|aabaabaa,1,2,2,9|aabaabaa,1,2|aabaabaa||,1|",
+    );
+}
+
+fn rows(call: Call, table: &[u8]) {
+    let mut at: usize = 0;
+    while at < table.len() {
+        let end = show::cases::place(table, at, show::cases::BAR);
+        row(call, &table[at..end]);
+        at = end + 1;
     }
 }
 
-fn runs_in(w: &[u8], table: &mut [u32]) {
-    let answer = runs::runs(w, table);
-    outcome(answer);
-    list(table);
-}
-
-fn node_cases() {
-    nodes_of(b"aabaabaa", 1, 3);
-    nodes_of(b"aabaabaa", 2, 3);
-    nodes_of(b"aabaabaa", 5, 3);
-    nodes_of(b"aabaabaa", 6, 1);
-    nodes_of(b"aabaabaa", 8, 3);
-    nodes_of(b"aabaabaa", 8, 2);
-    nodes_of(b"aabaabaa", 8, 1);
-    nodes_of(b"aabaabaa", 0, 3);
-    nodes_of(b"aabaabaa", 9, 3);
-    nodes_of(b"", 1, 0);
-    nodes_of(b"aa", 2, 1);
-    nodes_of(b"abaabaababaabaabababa", 21, 8);
-}
-
-fn nodes_of(w: &[u8], position: u32, places: usize) {
-    let mut table = [7u32; 64];
+fn row(call: Call, row: &[u8]) {
     let zero: usize = 0;
-    if places <= 64 {
-        text(b"nodes,");
-        text(w);
-        field(position);
-        field(places as u32);
-        nodes_in(w, position, &mut table[zero..places]);
+    let mut numbers = [0u32; 8];
+    let count = show::cases::values(row, &mut numbers);
+    let first = numbers[0];
+    let end = show::cases::place(row, zero, COMMA);
+    ask(call, &row[zero..end], first, &numbers[zero..count]);
+}
+
+fn ask(call: Call, w: &[u8], first: u32, numbers: &[u32]) {
+    match call {
+        Call::Judge => judged(w, numbers),
+        Call::JudgePath => path_judged(w, numbers),
+        Call::Best => best(w, numbers),
+        Call::Runs => lend(call, w, first, numbers),
+        Call::Nodes => lend(call, w, first, numbers),
+        Call::Path => lend(call, w, first, numbers),
     }
 }
 
-fn nodes_in(w: &[u8], position: u32, table: &mut [u32]) {
-    let answer = nodes::nodes(w, position, table);
-    outcome(answer);
-    list(table);
+fn judged(w: &[u8], ends: &[u32]) {
+    text(b"judge,");
+    text(w);
+    outcome(repetitions::judge_split(w, ends));
+    text(b" ends");
+    list(ends);
 }
 
-fn best_cases() {
-    both(b"");
-    both(b"a");
-    both(b"ab");
-    both(b"aa");
-    both(b"aaaa");
-    both(b"aaaaa");
-    both(b"ababa");
-    both(b"baa");
-    both(b"aabb");
-    both(b"aabaabaa");
-    both(b"abaabaababaabaabababa");
-    both(b"aabaabaacbbcbbcbb");
+fn path_judged(w: &[u8], numbers: &[u32]) {
+    text(b"judge path,");
+    text(w);
+    outcome(paths::judge_path(w, numbers));
+    text(b" numbers");
+    list(numbers);
 }
 
-// Both choices, with a place more than is needed.
-fn both(w: &[u8]) {
-    let n = w.len();
-    if n <= 24 {
-        let space = 4 * n + 5;
+fn best(w: &[u8], numbers: &[u32]) {
+    if numbers.len() == 3 {
+        best_of(w, numbers[2], numbers[0], numbers[1]);
+    } else if w.len() <= 24 {
+        let space = (4 * w.len() + 5) as u32;
         best_of(w, 1, 12, space);
         best_of(w, 2, 12, space);
     }
 }
 
-// Each refusal in its order; the working table afterwards shows whether it was used.
-fn best_refusals() {
-    best_of(b"aabaabaa", 0, 2, 36);
-    best_of(b"aabaabaa", 3, 2, 36);
-    best_of(b"aabaabaa", 3, 2, 35);
-    best_of(b"aabaabaa", 1, 2, 35);
-    best_of(b"aabaabaa", 2, 1, 36);
-    best_of(b"aabaabaa", 2, 2, 36);
-    best_of(b"baa", 2, 0, 18);
-    best_of(b"", 1, 0, 3);
-    best_of(b"", 1, 0, 4);
-}
-
-fn best_of(w: &[u8], choice: u32, places: usize, space: usize) {
+fn best_of(w: &[u8], choice: u32, places: u32, space: u32) {
     let mut ends = [7u32; 64];
     let mut work = [7u32; 128];
     let zero: usize = 0;
+    let last = places as usize;
+    let end = space as usize;
     if places <= 64 {
         if space <= 128 {
-            best_in(w, choice, &mut ends[zero..places], &mut work[zero..space]);
+            best_in(w, choice, &mut ends[zero..last], &mut work[zero..end]);
         }
     }
 }
 
 fn best_in(w: &[u8], choice: u32, ends: &mut [u32], work: &mut [u32]) {
-    let answer = repetitions::best_split(w, choice, ends, work);
     text(b"best,");
     text(w);
     field(choice);
-    outcome(answer);
+    outcome(repetitions::best_split(w, choice, ends, work));
     text(b" ends");
     list(ends);
     text(b" work");
     list(work);
 }
 
-fn judge_cases() {
-    let w = b"aabaabaa";
-    let none = [0u32; 1];
-    let zero: usize = 0;
-    judged(w, &none[zero..zero]);
-    judged(w, &[8]);
-    judged(w, &[2, 8]);
-    judged(w, &[3, 8]);
-    judged(w, &[2, 2, 8]);
-    judged(w, &[2, 9]);
-    judged(w, &[2]);
-    judged(w, &[2, 4, 8]);
-    judged(w, &[0]);
-    judged(w, &[4294967295]);
-    judged(b"", &none[zero..zero]);
-    judged(b"", &[1]);
-    judged(b"aabaabaacbbcbbcbb", &[6, 8, 15, 17]);
-    judged(b"aabaabaacbbcbbcbb", &[2, 8, 15, 17]);
-}
-
-fn judged(w: &[u8], ends: &[u32]) {
-    let answer = repetitions::judge_split(w, ends);
-    text(b"judge,");
-    text(w);
-    outcome(answer);
-    text(b" ends");
-    list(ends);
-}
-
-fn path_cases() {
-    let w = b"aabaabaa";
-    path_of(w, &[8], 2);
-    path_of(w, &[2, 8], 3);
-    path_of(w, &[2, 8], 2);
-    path_of(w, &[2, 8], 1);
-    path_of(w, &[3, 8], 1);
-    path_of(w, &[2, 9], 0);
-    path_of(w, &[2], 3);
-    path_of(b"aabaabaacbbcbbcbb", &[6, 8, 15, 17], 4);
-    path_of(b"abaabaababaabaabababa", &[6, 10, 16, 21], 5);
-}
-
-fn path_of(w: &[u8], ends: &[u32], places: usize) {
+// Lends so many places, and passes on the numbers behind the first.
+fn lend(call: Call, w: &[u8], places: u32, numbers: &[u32]) {
     let mut table = [7u32; 64];
     let zero: usize = 0;
-    if places <= 64 {
-        path_in(w, ends, &mut table[zero..places]);
+    let one: usize = 1;
+    let end = numbers.len();
+    let last = places as usize;
+    if one <= end {
+        if places <= 64 {
+            lent(call, w, places, &numbers[one..end], &mut table[zero..last]);
+        }
     }
 }
 
+fn lent(call: Call, w: &[u8], places: u32, numbers: &[u32], table: &mut [u32]) {
+    match call {
+        Call::Runs => {
+            text(b"runs,");
+            text(w);
+            field(places);
+            runs_in(w, table);
+        }
+        Call::Nodes => {
+            if numbers.len() == 1 {
+                text(b"nodes,");
+                text(w);
+                field(numbers[0]);
+                field(places);
+                nodes_in(w, numbers[0], table);
+            }
+        }
+        Call::Path => path_in(w, numbers, table),
+        Call::Best => {}
+        Call::Judge => {}
+        Call::JudgePath => {}
+    }
+}
+
+fn runs_in(w: &[u8], table: &mut [u32]) {
+    outcome(runs::runs(w, table));
+    list(table);
+}
+
+fn nodes_in(w: &[u8], position: u32, table: &mut [u32]) {
+    outcome(nodes::nodes(w, position, table));
+    list(table);
+}
+
 fn path_in(w: &[u8], ends: &[u32], table: &mut [u32]) {
-    let answer = paths::path_of_split(w, ends, table);
     text(b"path,");
     text(w);
-    outcome(answer);
+    outcome(paths::path_of_split(w, ends, table));
     text(b" ends");
     list(ends);
     text(b" runs");
     list(table);
 }
 
-fn judged_paths() {
-    let w = b"aabaabaa";
-    let none = [0u32; 1];
-    let zero: usize = 0;
-    path_judged(w, &[1, 2, 2, 8]);
-    path_judged(w, &[2, 8]);
-    path_judged(w, &[1, 2, 1, 8]);
-    path_judged(w, &[1, 2, 9, 8]);
-    path_judged(w, &[1, 2, 5, 8]);
-    path_judged(w, &[0, 8]);
-    path_judged(w, &[1, 2, 2]);
-    path_judged(w, &[1, 2, 2, 2]);
-    path_judged(w, &[1, 2, 2, 9]);
-    path_judged(w, &[1, 2]);
-    path_judged(w, &none[zero..zero]);
-    path_judged(b"", &none[zero..zero]);
-    path_judged(b"", &[1]);
+// A colon, the numbers, each after a space, and the line's end.
+fn list(xs: &[u32]) {
+    text(b":");
+    show::numbers(32, xs);
+    text(b"\n");
 }
 
-fn path_judged(w: &[u8], numbers: &[u32]) {
-    let answer = paths::judge_path(w, numbers);
-    text(b"judge path,");
-    text(w);
-    outcome(answer);
-    text(b" numbers");
-    list(numbers);
+// The places from one up to another, where the list has them.
+fn part(xs: &[u32], from: usize, to: usize) {
+    if to <= xs.len() {
+        if from <= to {
+            list(&xs[from..to]);
+        }
+    }
 }
 
 // 4,096 equal symbols.
@@ -250,66 +237,56 @@ fn long_words() {
     let mut few = [7u32; 2047];
     let mut again = [7u32; 16389];
     text(b"4096 equal, one place too few");
-    let answer = repetitions::best_split(&w, 2, &mut few, &mut again);
-    outcome(answer);
+    outcome(repetitions::best_split(&w, 2, &mut few, &mut again));
     text(b"\n");
 }
 
 fn long_fewest(w: &[u8], ends: &mut [u32], work: &mut [u32]) {
     text(b"4096 equal, fewest");
-    let fewest = repetitions::best_split(w, 1, ends, work);
-    outcome(fewest);
+    outcome(repetitions::best_split(w, 1, ends, work));
     text(b" ends");
-    show::part(ends, 0, 3);
+    part(ends, 0, 3);
 }
 
 fn long_most(w: &[u8], ends: &mut [u32], work: &mut [u32]) {
     text(b"4096 equal, most");
-    let most = repetitions::best_split(w, 2, ends, work);
-    outcome(most);
+    outcome(repetitions::best_split(w, 2, ends, work));
     text(b" ends");
-    show::part(ends, 0, 3);
+    part(ends, 0, 3);
     text(b" last ends");
-    show::part(ends, 2046, 2049);
+    part(ends, 2046, 2049);
     text(b" sizes");
-    show::part(work, 4094, 4099);
+    part(work, 4094, 4099);
 }
 
 // One symbol more: refusal 1 comes first in every call.
 fn too_long() {
     let w = [97u8; 4097];
-    let mut a = [7u32; 4];
+    let mut table = [7u32; 4];
+    let mut ends = [7u32; 4];
+    long_splits(&w, &mut table, &mut ends);
+    long_paths(&w, &mut table);
+}
+
+fn long_splits(w: &[u8], table: &mut [u32], ends: &mut [u32]) {
     text(b"4097 equal, runs");
-    runs_in(&w, &mut a);
-    let mut b = [7u32; 4];
+    runs_in(w, table);
     text(b"4097 equal, nodes");
-    nodes_in(&w, 0, &mut b);
-    let mut c = [7u32; 4];
-    let mut d = [7u32; 4];
-    long_best(&w, &mut c, &mut d);
-    text(b"4097 equal, judge");
-    let e = repetitions::judge_split(&w, &[0]);
-    outcome(e);
-    let mut f = [7u32; 4];
-    text(b"\n4097 equal, path");
-    long_path(&w, &mut f);
-    text(b"4097 equal, judge path");
-    let g = paths::judge_path(&w, &[0]);
-    outcome(g);
-    text(b"\n");
-}
-
-fn long_best(w: &[u8], ends: &mut [u32], work: &mut [u32]) {
+    nodes_in(w, 0, table);
     text(b"4097 equal, best");
-    let answer = repetitions::best_split(w, 0, ends, work);
-    outcome(answer);
-    list(work);
+    outcome(repetitions::best_split(w, 0, ends, table));
+    list(table);
 }
 
-fn long_path(w: &[u8], table: &mut [u32]) {
-    let answer = paths::path_of_split(w, &[0], table);
-    outcome(answer);
+fn long_paths(w: &[u8], table: &mut [u32]) {
+    text(b"4097 equal, judge");
+    outcome(repetitions::judge_split(w, &[0]));
+    text(b"\n4097 equal, path");
+    outcome(paths::path_of_split(w, &[0], table));
     list(table);
+    text(b"4097 equal, judge path");
+    outcome(paths::judge_path(w, &[0]));
+    text(b"\n");
 }
 
 // Words of a linear congruential generator: lengths from 1 to 24, over 2 or 3 letters.
@@ -322,27 +299,21 @@ fn generated() {
     }
 }
 
-// One word of n letters; gives the next seed.
-fn word(seed: u32, n: usize, letters: u32) -> u32
-    requires { ⌜ (n ≤ 24) × (0 < letters) ⌝ }
-{
+// One word of up to 24 letters; gives the next seed.
+fn word(seed: u32, n: usize, letters: u32) -> u32 {
     let mut w = [0u8; 24];
     let zero: usize = 0;
-    letters_of(seed, letters, &mut w[zero..n])
-}
-
-// Fills the slice with letters and shows the sizes of the word; gives the next seed.
-fn letters_of(seed: u32, letters: u32, w: &mut [u8]) -> u32
-    requires { ⌜ 0 < letters ⌝ }
-{
     let mut s = seed;
     let mut i: usize = 0;
-    while i < w.len() {
+    if 24 < n {
+        return seed;
+    }
+    while i < n {
         s = show::next(s);
         w[i] = show::letter(s, letters);
         i += 1;
     }
-    sizes(w);
+    sizes(&w[zero..n]);
     s
 }
 
@@ -352,10 +323,8 @@ fn sizes(w: &[u8]) {
     text(b"word,");
     text(w);
     text(b",fewest");
-    let fewest = repetitions::best_split(w, 1, &mut ends, &mut work);
-    outcome(fewest);
+    outcome(repetitions::best_split(w, 1, &mut ends, &mut work));
     text(b",most");
-    let most = repetitions::best_split(w, 2, &mut ends, &mut work);
-    outcome(most);
+    outcome(repetitions::best_split(w, 2, &mut ends, &mut work));
     text(b"\n");
 }

@@ -1,6 +1,6 @@
 -- `vectors::generated` meets its contract: the loop ends. Assumes nothing.
 use Prim.Native.Nat.{_-_, _≤_}
-use borrow.Author.Needs.{needs}
+use native.Mathlib.Omega.{arith}
 use Rattle.vectors.proofs.generated.Statement.{statement}
 use Rattle.vectors.proofs.generated.Tie as tie
 
@@ -11,31 +11,31 @@ abbrev μ-loop : tie.MeasureT-loop
 μ-loop seed₀ i₀ seed i = 300 - i
 
 loop-holds : tie.Need-loop-holds Inv-loop μ-loop
-loop-holds c = search needs
+loop-holds c = omega arith
 
 add-word : tie.Need-add-word Inv-loop μ-loop
-add-word c = search needs
+add-word c = omega arith
 
 cast-word : tie.Need-cast-word Inv-loop μ-loop
-cast-word c = search needs
+cast-word c = omega arith
 
 add-word-2 : tie.Need-add-word-2 Inv-loop μ-loop
-add-word-2 c = search needs
+add-word-2 c = omega arith
 
 word-requires : tie.Need-word-requires Inv-loop μ-loop
-word-requires c κs = search needs
+word-requires c κs = tt
 
 add-i : tie.Need-add-i Inv-loop μ-loop
-add-i c = search needs
+add-i c = omega arith
 
 loop-less : tie.Need-loop-less Inv-loop μ-loop
-loop-less c = search needs
+loop-less c = omega arith
 
 loop-again : tie.Need-loop-again Inv-loop μ-loop
-loop-again c = search needs
+loop-again c = omega arith
 
 returns : tie.Need-returns Inv-loop μ-loop
-returns c = search needs
+returns c = tt
 
 pub generated-spec : {M : Type 1} → statement M
 generated-spec =
