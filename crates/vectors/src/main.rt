@@ -2,6 +2,7 @@
 // of these calls with the tables before and after, and words from a small generator. What is lent
 // holds 7 in every place before the call; a list shows the lent places after it. Each line is
 // compared with the file stdout.
+use answers::Counted;
 use decimals::COMMA;
 use show::field;
 use show::outcome;
@@ -102,19 +103,13 @@ fn ask(call: Call, w: &[u8], first: u32, numbers: &[u32]) {
 }
 
 fn judged(w: &[u8], ends: &[u32]) {
-    text(b"judge,");
-    text(w);
-    outcome(repetitions::judge_split(w, ends));
-    text(b" ends");
-    list(ends);
+    answered(b"judge,", w, repetitions::judge_split(w, ends));
+    list(b" ends", ends);
 }
 
 fn path_judged(w: &[u8], numbers: &[u32]) {
-    text(b"judge path,");
-    text(w);
-    outcome(paths::judge_path(w, numbers));
-    text(b" numbers");
-    list(numbers);
+    answered(b"judge path,", w, paths::judge_path(w, numbers));
+    list(b" numbers", numbers);
 }
 
 fn best(w: &[u8], numbers: &[u32]) {
@@ -145,10 +140,8 @@ fn best_in(w: &[u8], choice: u32, ends: &mut [u32], work: &mut [u32]) {
     text(w);
     field(choice);
     outcome(repetitions::best_split(w, choice, ends, work));
-    text(b" ends");
-    list(ends);
-    text(b" work");
-    list(work);
+    list(b" ends", ends);
+    list(b" work", work);
 }
 
 // Lends so many places, and passes on the numbers behind the first.
@@ -167,21 +160,8 @@ fn lend(call: Call, w: &[u8], places: u32, numbers: &[u32]) {
 
 fn lent(call: Call, w: &[u8], places: u32, numbers: &[u32], table: &mut [u32]) {
     match call {
-        Call::Runs => {
-            text(b"runs,");
-            text(w);
-            field(places);
-            runs_in(w, table);
-        }
-        Call::Nodes => {
-            if numbers.len() == 1 {
-                text(b"nodes,");
-                text(w);
-                field(numbers[0]);
-                field(places);
-                nodes_in(w, numbers[0], table);
-            }
-        }
+        Call::Runs => runs_in(w, places, table),
+        Call::Nodes => nodes_in(w, places, numbers, table),
         Call::Path => path_in(w, numbers, table),
         Call::Best => {}
         Call::Judge => {}
@@ -189,38 +169,51 @@ fn lent(call: Call, w: &[u8], places: u32, numbers: &[u32], table: &mut [u32]) {
     }
 }
 
-fn runs_in(w: &[u8], table: &mut [u32]) {
+fn runs_in(w: &[u8], places: u32, table: &mut [u32]) {
+    text(b"runs,");
+    text(w);
+    field(places);
     outcome(runs::runs(w, table));
-    list(table);
+    list(b"", table);
 }
 
-fn nodes_in(w: &[u8], position: u32, table: &mut [u32]) {
-    outcome(nodes::nodes(w, position, table));
-    list(table);
+fn nodes_in(w: &[u8], places: u32, numbers: &[u32], table: &mut [u32]) {
+    if numbers.len() == 1 {
+        let position = numbers[0];
+        text(b"nodes,");
+        text(w);
+        field(position);
+        field(places);
+        outcome(nodes::nodes(w, position, table));
+        list(b"", table);
+    }
 }
 
 fn path_in(w: &[u8], ends: &[u32], table: &mut [u32]) {
-    text(b"path,");
-    text(w);
-    outcome(paths::path_of_split(w, ends, table));
-    text(b" ends");
-    list(ends);
-    text(b" runs");
-    list(table);
+    answered(b"path,", w, paths::path_of_split(w, ends, table));
+    list(b" ends", ends);
+    list(b" runs", table);
 }
 
-// A colon, the numbers, each after a space, and the line's end.
-fn list(xs: &[u32]) {
+fn answered(name: &[u8], w: &[u8], answer: Counted) {
+    text(name);
+    text(w);
+    outcome(answer);
+}
+
+// A name, a colon, the numbers, each after a space, and the line's end.
+fn list(name: &[u8], xs: &[u32]) {
+    text(name);
     text(b":");
     show::numbers(32, xs);
     text(b"\n");
 }
 
 // The places from one up to another, where the list has them.
-fn part(xs: &[u32], from: usize, to: usize) {
+fn part(name: &[u8], xs: &[u32], from: usize, to: usize) {
     if to <= xs.len() {
         if from <= to {
-            list(&xs[from..to]);
+            list(name, &xs[from..to]);
         }
     }
 }
@@ -228,35 +221,31 @@ fn part(xs: &[u32], from: usize, to: usize) {
 // 4,096 equal symbols.
 fn long_words() {
     let w = [97u8; 4096];
-    let mut ends = [7u32; 2049];
+    long_fewest(&w);
+    long_most(&w);
+    let mut ends = [7u32; 2047];
     let mut work = [7u32; 16389];
-    long_fewest(&w, &mut ends, &mut work);
-    let mut most_ends = [7u32; 2049];
-    let mut most_work = [7u32; 16389];
-    long_most(&w, &mut most_ends, &mut most_work);
-    let mut few = [7u32; 2047];
-    let mut again = [7u32; 16389];
     text(b"4096 equal, one place too few");
-    outcome(repetitions::best_split(&w, 2, &mut few, &mut again));
+    outcome(repetitions::best_split(&w, 2, &mut ends, &mut work));
     text(b"\n");
 }
 
-fn long_fewest(w: &[u8], ends: &mut [u32], work: &mut [u32]) {
+fn long_fewest(w: &[u8]) {
+    let mut ends = [7u32; 2049];
+    let mut work = [7u32; 16389];
     text(b"4096 equal, fewest");
-    outcome(repetitions::best_split(w, 1, ends, work));
-    text(b" ends");
-    part(ends, 0, 3);
+    outcome(repetitions::best_split(w, 1, &mut ends, &mut work));
+    part(b" ends", &ends, 0, 3);
 }
 
-fn long_most(w: &[u8], ends: &mut [u32], work: &mut [u32]) {
+fn long_most(w: &[u8]) {
+    let mut ends = [7u32; 2049];
+    let mut work = [7u32; 16389];
     text(b"4096 equal, most");
-    outcome(repetitions::best_split(w, 2, ends, work));
-    text(b" ends");
-    part(ends, 0, 3);
-    text(b" last ends");
-    part(ends, 2046, 2049);
-    text(b" sizes");
-    part(work, 4094, 4099);
+    outcome(repetitions::best_split(w, 2, &mut ends, &mut work));
+    part(b" ends", &ends, 0, 3);
+    part(b" last ends", &ends, 2046, 2049);
+    part(b" sizes", &work, 4094, 4099);
 }
 
 // One symbol more: refusal 1 comes first in every call.
@@ -270,12 +259,14 @@ fn too_long() {
 
 fn long_splits(w: &[u8], table: &mut [u32], ends: &mut [u32]) {
     text(b"4097 equal, runs");
-    runs_in(w, table);
+    outcome(runs::runs(w, table));
+    list(b"", table);
     text(b"4097 equal, nodes");
-    nodes_in(w, 0, table);
+    outcome(nodes::nodes(w, 0, table));
+    list(b"", table);
     text(b"4097 equal, best");
     outcome(repetitions::best_split(w, 0, ends, table));
-    list(table);
+    list(b"", table);
 }
 
 fn long_paths(w: &[u8], table: &mut [u32]) {
@@ -283,7 +274,7 @@ fn long_paths(w: &[u8], table: &mut [u32]) {
     outcome(repetitions::judge_split(w, &[0]));
     text(b"\n4097 equal, path");
     outcome(paths::path_of_split(w, &[0], table));
-    list(table);
+    list(b"", table);
     text(b"4097 equal, judge path");
     outcome(paths::judge_path(w, &[0]));
     text(b"\n");
@@ -321,10 +312,15 @@ fn sizes(w: &[u8]) {
     let mut ends = [7u32; 16];
     let mut work = [7u32; 100];
     text(b"word,");
-    text(w);
-    text(b",fewest");
-    outcome(repetitions::best_split(w, 1, &mut ends, &mut work));
-    text(b",most");
-    outcome(repetitions::best_split(w, 2, &mut ends, &mut work));
+    answered(
+        w,
+        b",fewest",
+        repetitions::best_split(w, 1, &mut ends, &mut work),
+    );
+    answered(
+        b"",
+        b",most",
+        repetitions::best_split(w, 2, &mut ends, &mut work),
+    );
     text(b"\n");
 }
