@@ -1,6 +1,6 @@
-// Text on standard output for the test programs, and the generator of their words. No contract can
-// say what was written: a printing function gives how many bytes it handed to standard output, and
-// its contract fixes that count by the text.
+// What the test programs share: text on standard output, the generator of their words, and the
+// tables of their cases. No contract can say what was written: a printing function gives how many
+// bytes it handed to standard output, and its contract fixes that count by the text.
 pub mod cases;
 
 ghost use mathlib.Core.Path.{_≡_};
@@ -15,8 +15,8 @@ use decimals::COMMA;
 use decimals::LINE_END;
 use libc::STDOUT_FILENO;
 
-// The longest list that is printed.
-pub const MOST: usize = 65536;
+// The longest list of numbers that is printed.
+const MOST: usize = 65536;
 
 // Bytes as they are.
 pub fn text(s: &[u8]) -> usize
@@ -77,7 +77,7 @@ pub fn outcome(answer: Counted) -> usize
     }
 }
 
-// Numbers, a byte before each, where there are at most so many.
+// Numbers, a byte before each; none of a list that is longer than the longest.
 pub fn numbers(before: u8, xs: &[u32]) -> usize
     ensures { λ r. ⌜ r ≡ length (numbersShown before (now (xs .entry))) ⌝ }
 {

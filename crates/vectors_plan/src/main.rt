@@ -18,15 +18,10 @@ use show::text;
 // The byte before the numbers of a list.
 const SPACE: u8 = 32;
 
+// Tables of cases. To write, a row has the length, the places and the ends: plans that are written,
+// and then refusals. To read, a row has the places, in one digit, and the line: plans that are read;
+// bytes that are no line; lines that are no plan, and tables that are too short.
 fn main() {
-    written();
-    read_back();
-    cut_everywhere(b"plan,0008,0002,0002,0008\n");
-    damaged_everywhere(*b"plan,0008,0002,0002,0008\n");
-}
-
-// A row has the length, the places, and the ends: plans that are written, and then refusals.
-fn written() {
     rows(
         b",0,15|,8,40,8|,8,25,2,8|,8,26,2,8|,4096,25,2048,4096|,5,40,1,2,3,4,5|\
         ,4097,40,4097|,4294967295,40|,4097,0,3,2|\
@@ -34,11 +29,6 @@ fn written() {
         ,8,40|,8,40,2,7|,8,0,2,7|\
         ,0,14|,0,0|,8,24,2,8|,5,39,1,2,3,4,5|",
     );
-}
-
-// A row has the places, in one digit, and the line: plans that are read, then bytes that are no
-// line, then lines that are no plan, and tables that are too short.
-fn read_back() {
     rows(
         b"0plan,0000,0000\n|\
         4plan,0008,0001,0008\n|\
@@ -84,6 +74,9 @@ fn read_back() {
         1plan,0008,0002,0002,0008\n|\
         0plan,0008,0001,0008\n|",
     );
+    let line = b"plan,0008,0002,0002,0008\n";
+    cut_everywhere(line);
+    damaged_everywhere(*line);
 }
 
 fn rows(table: &[u8]) {
@@ -95,15 +88,12 @@ fn rows(table: &[u8]) {
     }
 }
 
-// A row of numbers is a plan to write, and any other a line to read.
+// A row that starts with a comma is a plan to write, and any other a line to read.
 fn row(row: &[u8]) {
     let one: usize = 1;
     let two: usize = 2;
     let end = row.len();
-    if end == 0 {
-        return;
-    }
-    if row[0] != COMMA {
+    if 0 < place(row, 0, COMMA) {
         read_case(&row[one..end], value(row, 0));
         return;
     }
