@@ -258,26 +258,32 @@ fn too_long() {
 }
 
 fn long_splits(w: &[u8], table: &mut [u32], ends: &mut [u32]) {
-    text(b"4097 equal, runs");
-    outcome(runs::runs(w, table));
-    list(b"", table);
-    text(b"4097 equal, nodes");
-    outcome(nodes::nodes(w, 0, table));
-    list(b"", table);
-    text(b"4097 equal, best");
-    outcome(repetitions::best_split(w, 0, ends, table));
-    list(b"", table);
+    tabled(b"4097 equal, runs", runs::runs(w, table), table);
+    tabled(b"4097 equal, nodes", nodes::nodes(w, 0, table), table);
+    tabled(
+        b"4097 equal, best",
+        repetitions::best_split(w, 0, ends, table),
+        table,
+    );
 }
 
 fn long_paths(w: &[u8], table: &mut [u32]) {
     text(b"4097 equal, judge");
     outcome(repetitions::judge_split(w, &[0]));
-    text(b"\n4097 equal, path");
-    outcome(paths::path_of_split(w, &[0], table));
-    list(b"", table);
+    tabled(
+        b"\n4097 equal, path",
+        paths::path_of_split(w, &[0], table),
+        table,
+    );
     text(b"4097 equal, judge path");
     outcome(paths::judge_path(w, &[0]));
     text(b"\n");
+}
+
+fn tabled(name: &[u8], answer: Counted, table: &[u32]) {
+    text(name);
+    outcome(answer);
+    list(b"", table);
 }
 
 // Words of a linear congruential generator: lengths from 1 to 24, over 2 or 3 letters.
