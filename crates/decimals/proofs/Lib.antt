@@ -1,3 +1,4 @@
 pub mod Claims
+pub mod Fields
 pub mod Loops
 pub mod Examples

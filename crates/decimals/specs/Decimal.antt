@@ -30,6 +30,11 @@ digitCount (suc most) x = cond (ltb x 10) 1 (suc (digitCount most (x / 10)))
 abbrev pub plain : ℕ → List ℕ
 plain x = digits (digitCount 9 x) x
 
+-- numbers with no leading zeros, the byte before each
+unfoldable pub fieldsAfter : ℕ → List ℕ → List ℕ
+fieldsAfter b [] = []
+fieldsAfter b (x ∷ xs) = b ∷ (plain x ++ fieldsAfter b xs)
+
 -- whether a byte is a digit
 abbrev pub digit? : ℕ → Bool
 digit? b = leb zeroByte b && leb b (zeroByte + 9)

@@ -2,30 +2,20 @@
 -- Assumes nothing.
 use mathlib.Core.Path.{_≡_, ap, _∙_}
 use mathlib.Core.Bool.{Bool, true, false, cond}
-use mathlib.Core.List.{List, [], _∷_, _++_}
+use mathlib.Core.List.{List, [], _∷_}
 use Prim.Native.Nat.{ℕ, suc, _+_, _*_, _≤_, _<_}
 use native.Mathlib.Omega.{arith}
 use native.Mathlib.Numerals.{add-one}
 use lib.Dec.{eqb}
 use lib.ListN.{length, getD, drop, length-append, drop-of-length-le}
 use lib.Seq.{drop-cons}
-use Rattle.decimals.specs.Decimal.{lineEnd, plain}
-use Rattle.writers.proofs.Stores.{plain-long}
-use Rattle.show.specs.Text.{byteNumber, numbersText, visibleByte, visibleBytes}
+use Rattle.decimals.specs.Decimal.{lineEnd, fieldsAfter}
+use Rattle.decimals.proofs.Fields.{fields-more}
+use Rattle.show.specs.Text.{byteNumber, visibleByte, visibleBytes}
 
--- numbers, a byte before each
-pub numbers-more : (b : ℕ) (xs : List ℕ) (i : ℕ) → i < length xs → length (numbersText b (drop i xs)) ≡ length (byteNumber b (getD xs i 0)) + length (numbersText b (drop (i + 1) xs))
-unfolding numbersText
-numbers-more b xs i h = rw (drop-cons xs i 0 h, add-one i) (length-append (byteNumber b (getD xs i 0)) (numbersText b (drop (suc i) xs)))
-
-pub numbers-done : (b : ℕ) (xs : List ℕ) (i : ℕ) → length xs ≤ i → length (numbersText b (drop i xs)) ≡ 0
-unfolding numbersText
-numbers-done b xs i h = rw (drop-of-length-le xs {i = i} h)
-
-pub numbers-long : (b : ℕ) (xs : List ℕ) → length (numbersText b xs) ≤ 11 * length xs
-unfolding numbersText
-numbers-long b [] = omega arith
-numbers-long b (x ∷ xs) = omega (arith, plain-long x, numbers-long b xs, length-append (byteNumber b x) (numbersText b xs))
+-- numbers, the byte before each
+pub numbers-more : (b : ℕ) (xs : List ℕ) (i : ℕ) → i < length xs → length (fieldsAfter b (drop i xs)) ≡ length (byteNumber b (getD xs i 0)) + length (fieldsAfter b (drop (i + 1) xs))
+numbers-more b xs i h = ap length (fields-more b xs i h) ∙ length-append (byteNumber b (getD xs i 0)) (fieldsAfter b (drop (i + 1) xs))
 
 -- bytes, each as it is shown
 pub visible-more : (s : List ℕ) (i : ℕ) → i < length s → length (visibleBytes (drop i s)) ≡ length (visibleByte (getD s i 0)) + length (visibleBytes (drop (i + 1) s))

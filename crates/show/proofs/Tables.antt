@@ -1,6 +1,6 @@
 -- Texts read from a place on: the first place of a byte, the number that digits spell, and the numbers after commas, one byte after another. By the
 -- definitions, and by induction on the lists. Assumes nothing.
-use mathlib.Core.Path.{_≡_, refl, ap, _∙_}
+use mathlib.Core.Path.{_≡_, refl, _∙_}
 use mathlib.Core.List.{List, [], _∷_}
 use Prim.Native.Nat.{ℕ, suc, _+_, _-_, _*_, _%_, _≤_, _<_}
 use native.Mathlib.Omega.{arith}

@@ -8,7 +8,7 @@ use Rattle.answers.specs.declared.Counted.{Counted}
 use Rattle.answers.specs.declared.Counted.the-variants.{Count, Refused}
 use Rattle.answers.specs.declared.Refusal.{Refusal}
 use Rattle.answers.specs.Outcome.{codeOf}
-use Rattle.decimals.specs.Decimal.{comma, lineEnd, plain}
+use Rattle.decimals.specs.Decimal.{comma, lineEnd, plain, fieldsAfter}
 
 -- a byte and a number
 abbrev pub byteNumber : ℕ → ℕ → List ℕ
@@ -30,18 +30,13 @@ abbrev pub outcomeText : Counted → List ℕ
 outcomeText (Count n) = acceptedText ++ byteNumber comma n
 outcomeText (Refused r) = refusedText ++ codeText r
 
--- numbers, a byte before each
-unfoldable pub numbersText : ℕ → List ℕ → List ℕ
-numbersText b [] = []
-numbersText b (x ∷ xs) = byteNumber b x ++ numbersText b xs
-
 -- the longest list that is printed
 abbrev pub most : ℕ
 most = 65536
 
--- numbers, where they are not more
+-- numbers, the byte before each, where they are not more
 unfoldable pub numbersShown : ℕ → List ℕ → List ℕ
-numbersShown b xs = cond (ltb most (length xs)) [] (numbersText b xs)
+numbersShown b xs = cond (ltb most (length xs)) [] (fieldsAfter b xs)
 
 -- a byte, the line end as a backslash and an n
 abbrev pub visibleByte : ℕ → List ℕ

@@ -1,20 +1,19 @@
 -- Bytes stored one piece after another: what a writer has stored, and what is left to store. Storing past the end does nothing, so that the laws hold whether
 -- there is room or not. And how long the pieces can be. By induction on the lists. Assumes nothing.
 use mathlib.Core.Path.{_≡_, refl, sym, ap, ap₂, _∙_, subst}
-use mathlib.Core.Bool.{Bool, true, false, cond}
 use mathlib.Core.List.{List, [], _∷_, _++_}
-use Prim.Native.Nat.{ℕ, zero, suc, _+_, _-_, _*_, _/_, _≤_, _<_}
+use Prim.Native.Nat.{ℕ, suc, _+_, _-_, _*_, _≤_, _<_}
 use native.Mathlib.Omega.{arith}
 use native.Mathlib.Numerals.{add-one}
 use native.Mathlib.Nat.{add-zero}
 use borrow.Author.Tests.{lt-ltb, le-ltb}
-use lib.Dec.{ltb}
 use lib.ListN.{length, getD, set, take, drop, length-append, drop-of-length-le}
 use lib.Seq.{sets, length-sets, drop-cons, take-at}
 use Rattle.laws.proofs.Stores.{sets-append, sets-front, stored-nowhere}
 use Rattle.answers.specs.Outcome.{accepted, refused}
-use Rattle.decimals.specs.Decimal.{comma, lineEnd, digits, digitCount, plain}
+use Rattle.decimals.specs.Decimal.{comma, lineEnd, digits}
 use Rattle.decimals.proofs.Claims.{digits-length}
+use Rattle.decimals.proofs.Fields.{fields-long}
 use Rattle.writers.specs.Line.{printedOutcome, printedTable, fieldsOf, line}
 
 -- ---- stored, and left to store
@@ -105,39 +104,11 @@ bytes-done u s at i h = rw (drop-of-length-le s {i = i} h) refl
 
 -- ---- numbers
 
-pub count-most : (most x : ℕ) → digitCount most x ≤ suc most
-unfolding digitCount
-count-most zero x = omega arith
-count-most (suc most) x = go (ltb x 10) (count-most most (x / 10))
-  where
-    go : (b : Bool) → digitCount most (x / 10) ≤ suc most → cond b 1 (suc (digitCount most (x / 10))) ≤ suc (suc most)
-    go true h = omega arith
-    go false h = omega arith
-
 -- the digits that were written at the front of a table
 pub digits-front : (t d : List ℕ) (k x : ℕ) → k ≤ length t → d ≡ sets t 0 (digits k x) → take (k - 0) d ≡ digits k x
 digits-front t d k x h f =
     let e : k - 0 ≡ k = omega arith in
     rw (e, f, sets-front t (digits k x) (omega (arith, digits-length k x))) (take-at (digits k x) (drop (length (digits k x)) t) k (digits-length k x))
-
-pub plain-long : (x : ℕ) → length (plain x) ≤ 10
-plain-long x = omega (arith, digits-length (digitCount 9 x) x, count-most 9 x)
-
-pub fields-none : fieldsOf [] ≡ []
-unfolding fieldsOf
-fields-none = refl
-
-pub fields-more : (xs : List ℕ) (i : ℕ) → i < length xs → fieldsOf (drop i xs) ≡ (comma ∷ plain (getD xs i 0)) ++ fieldsOf (drop (i + 1) xs)
-unfolding fieldsOf
-fields-more xs i h = ap fieldsOf (drop-cons xs i 0 h) ∙ rw (add-one i) refl
-
-pub fields-done : (xs : List ℕ) (i : ℕ) → length xs ≤ i → fieldsOf (drop i xs) ≡ []
-fields-done xs i h = ap fieldsOf (drop-of-length-le xs {i = i} h) ∙ fields-none
-
-pub fields-long : (xs : List ℕ) → length (fieldsOf xs) ≤ 11 * length xs
-unfolding fieldsOf
-fields-long [] = omega arith
-fields-long (x ∷ xs) = omega (arith, plain-long x, fields-long xs, length-append (plain x) (fieldsOf xs))
 
 pub line-is : (name xs : List ℕ) → line name xs ≡ name ++ (fieldsOf xs ++ (lineEnd ∷ []))
 unfolding line
@@ -145,4 +116,4 @@ line-is name xs = refl
 
 pub line-long : (name xs : List ℕ) → length (line name xs) ≤ length name + 11 * length xs + 1
 line-long name xs =
-    omega (arith, ap length (line-is name xs), fields-long xs, length-append name (fieldsOf xs ++ (lineEnd ∷ [])), length-append (fieldsOf xs) (lineEnd ∷ []))
+    omega (arith, ap length (line-is name xs), fields-long comma xs, length-append name (fieldsOf xs ++ (lineEnd ∷ [])), length-append (fieldsOf xs) (lineEnd ∷ []))

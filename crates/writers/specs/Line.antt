@@ -6,12 +6,11 @@ use lib.Dec.{ltb}
 use lib.ListN.{length, drop}
 use Rattle.answers.specs.declared.Refusal.the-variants.{TooFewPlaces}
 use Rattle.answers.specs.Outcome.{Outcome, accepted, refusal}
-use Rattle.decimals.specs.Decimal.{comma, lineEnd, plain}
+use Rattle.decimals.specs.Decimal.{comma, lineEnd, fieldsAfter}
 
 -- numbers, each with a comma before it
-unfoldable pub fieldsOf : List ℕ → List ℕ
-fieldsOf [] = []
-fieldsOf (x ∷ xs) = comma ∷ (plain x ++ fieldsOf xs)
+abbrev pub fieldsOf : List ℕ → List ℕ
+fieldsOf xs = fieldsAfter comma xs
 
 -- a line
 unfoldable pub line : List ℕ → List ℕ → List ℕ

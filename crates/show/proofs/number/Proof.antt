@@ -5,7 +5,7 @@ use borrow.Author.Needs.{needs}
 use lib.ListN.{length-take}
 use Rattle.decimals.specs.Decimal.{digitCount}
 use Rattle.decimals.proofs.Claims.{digits-length}
-use Rattle.writers.proofs.Stores.{count-most}
+use Rattle.decimals.proofs.Fields.{count-most}
 use Rattle.show.proofs.number.Statement.{statement}
 use Rattle.show.proofs.number.Tie as tie
 

@@ -1,16 +1,18 @@
 -- `show::numbers` meets its contract: what is printed and what is left make the text. Assumes nothing.
-use mathlib.Core.Path.{_≡_}
+use mathlib.Core.Path.{_≡_, ap}
 use Prim.Native.Nat.{_+_, _-_, _≤_}
 use native.Mathlib.Omega.{arith}
 use borrow.Author.Tests.{lt-ltb, le-ltb}
 use lib.ListN.{length, drop}
-use Rattle.show.specs.Text.{most, numbersText, numbersShown}
-use Rattle.show.proofs.Lengths.{numbers-more, numbers-done, numbers-long}
+use Rattle.decimals.specs.Decimal.{fieldsAfter}
+use Rattle.decimals.proofs.Fields.{fields-done, fields-long}
+use Rattle.show.specs.Text.{most, numbersShown}
+use Rattle.show.proofs.Lengths.{numbers-more}
 use Rattle.show.proofs.numbers.Statement.{statement}
 use Rattle.show.proofs.numbers.Tie as tie
 
 abbrev Inv-loop : tie.InvT-loop
-Inv-loop before xs count₀ i₀ count i = (i ≤ length xs) × (count + length (numbersText before (drop i xs)) ≡ length (numbersText before xs))
+Inv-loop before xs count₀ i₀ count i = (i ≤ length xs) × (count + length (fieldsAfter before (drop i xs)) ≡ length (fieldsAfter before xs))
 
 abbrev μ-loop : tie.MeasureT-loop
 μ-loop before xs count₀ i₀ count i = length xs - i
@@ -34,7 +36,7 @@ after-requires c κs = tt
 add-count : tie.Need-add-count Inv-loop μ-loop
 add-count c =
     let g = c .before .before .before .before .before .before .args in
-    omega (arith, numbers-long (g .before) (g .xs .now))
+    omega (arith, fields-long (g .before) (g .xs .now))
 
 add-i : tie.Need-add-i Inv-loop μ-loop
 add-i c = omega arith
@@ -53,7 +55,7 @@ unfolding numbersShown
 returns-2 c =
     let g = c .before .before .before .before .args in
     let l = c .before .loop in
-    let e : l .count ≡ length (numbersText (g .before) (g .xs .now)) = omega (arith, numbers-done (g .before) (g .xs .now) (l .i) (omega arith)) in
+    let e : l .count ≡ length (fieldsAfter (g .before) (g .xs .now)) = omega (arith, ap length (fields-done (g .before) (g .xs .now) (l .i) (omega arith))) in
     simp (le-ltb most (length (g .xs .now)) (omega arith)) e
 
 pub numbers-spec : {M : Type 1} → statement M

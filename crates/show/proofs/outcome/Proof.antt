@@ -1,5 +1,5 @@
 -- `show::outcome` meets its contract: by the variant of the answer, the lengths of the two texts add up. Assumes nothing.
-use mathlib.Core.Path.{_≡_, sym, ap}
+use mathlib.Core.Path.{sym, ap}
 use Prim.Native.Nat.{ℕ}
 use native.Mathlib.Omega.{arith}
 use borrow.Author.Needs.{needs}

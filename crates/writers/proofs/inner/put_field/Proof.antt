@@ -6,7 +6,8 @@ use native.Mathlib.Omega.{arith}
 use borrow.Author.Needs.{needs}
 use lib.ListN.{take, replicate, length-take}
 use Rattle.decimals.specs.Decimal.{comma, plain, digits}
-use Rattle.writers.proofs.Stores.{stored, stored-as, ensured, left-all, left-less, left-last, count-most, digits-front}
+use Rattle.writers.proofs.Stores.{stored, stored-as, ensured, left-all, left-less, left-last, digits-front}
+use Rattle.decimals.proofs.Fields.{count-most}
 use Rattle.writers.proofs.inner.put_field.Statement.{statement}
 use Rattle.writers.proofs.inner.put_field.Tie as tie
 

@@ -6,8 +6,9 @@ use Prim.Native.Nat.{_+_, _-_, _≤_}
 use native.Mathlib.Omega.{arith}
 use lib.ListN.{length, getD, drop}
 use Rattle.decimals.specs.Decimal.{comma, lineEnd, plain}
+use Rattle.decimals.proofs.Fields.{fields-more, fields-done, fields-long}
 use Rattle.writers.specs.Line.{fieldsOf, line}
-use Rattle.writers.proofs.Stores.{Left, stored, ensured, stored-length, left-all, left-as, left-less, left-none, left-last, fields-more, fields-done, fields-long, line-is}
+use Rattle.writers.proofs.Stores.{Left, stored, ensured, stored-length, left-all, left-as, left-less, left-none, left-last, line-is}
 use Rattle.writers.proofs.inner.put_line.Statement.{statement}
 use Rattle.writers.proofs.inner.put_line.Tie as tie
 
@@ -30,7 +31,7 @@ shared-slice-read-put-field : tie.Need-shared-slice-read-put-field Inv-loop μ-l
 shared-slice-read-put-field c = omega arith
 
 put-field-requires : tie.Need-put-field-requires Inv-loop μ-loop
-put-field-requires c κs = omega (arith, c .before .before .before .loop .inv .2 .place, c .before .before .before .before .before .before .put-text .ensures .0, fields-long (c .before .before .before .before .before .before .before .before .before .before .before .args .xs .now))
+put-field-requires c κs = omega (arith, c .before .before .before .loop .inv .2 .place, c .before .before .before .before .before .before .put-text .ensures .0, fields-long comma (c .before .before .before .before .before .before .before .before .before .before .before .args .xs .now))
 
 add-i : tie.Need-add-i Inv-loop μ-loop
 add-i c = omega arith
@@ -46,11 +47,11 @@ loop-again c =
     let S = stored (l .out) (l .next) (comma ∷ plain x) _ _ (c .before .before .put-field .ensures) in (
       omega arith,
       stored-length S ∙ l .inv .1,
-      left-less (fieldsOf (drop (l .i + 1) (g .xs .now))) (left-as ((comma ∷ plain x) ++ fieldsOf (drop (l .i + 1) (g .xs .now))) (fields-more (g .xs .now) (l .i) (omega arith)) (l .inv .2)) S,
+      left-less (fieldsOf (drop (l .i + 1) (g .xs .now))) (left-as ((comma ∷ plain x) ++ fieldsOf (drop (l .i + 1) (g .xs .now))) (fields-more comma (g .xs .now) (l .i) (omega arith)) (l .inv .2)) S,
     )
 
 put-byte-requires : tie.Need-put-byte-requires Inv-loop μ-loop
-put-byte-requires c κs = omega (arith, c .before .before .loop .inv .2 .place, c .before .before .before .before .before .put-text .ensures .0, fields-long (c .before .before .before .before .before .before .before .before .before .before .args .xs .now))
+put-byte-requires c κs = omega (arith, c .before .before .loop .inv .2 .place, c .before .before .before .before .before .put-text .ensures .0, fields-long comma (c .before .before .before .before .before .before .before .before .before .before .args .xs .now))
 
 same-length : tie.Need-same-length Inv-loop μ-loop
 same-length c = c .before .before .put-byte .kept .0 ∙ c .before .before .before .before .before .loop .inv .1 ∙ c .before .before .before .before .before .before .before .before .put-text .kept .0
@@ -63,7 +64,7 @@ returns c =
     let xs = g .xs .now in
     let all = left-all (g .out .now) (g .at) (line name xs) (name ++ (fieldsOf xs ++ (lineEnd ∷ []))) (line-is name xs) in
     let named = left-less (fieldsOf xs ++ (lineEnd ∷ [])) all (stored (g .out .now) (g .at) name _ _ (c .before .before .before .before .before .before .before .before .put-text .ensures)) in
-    let fields = left-none (left-as [] (fields-done xs (l .i) (omega arith)) (l .inv .2)) in
+    let fields = left-none (left-as [] (fields-done comma xs (l .i) (omega arith)) (l .inv .2)) in
     ensured (left-last (left-less (lineEnd ∷ []) named fields) (stored (l .out) (l .next) (lineEnd ∷ []) _ _ (c .before .before .put-byte .ensures)))
 
 pub put-line-spec : {M : Type 1} → statement M
