@@ -1,6 +1,7 @@
 /*
- * Reads a lay-up, one line from standard input, and prints its fewest split: the size and then the
- * end of each block, a line each. At the top of the repository, after `rt staticlib cegridom`:
+ * Reads a lay-up, one line from standard input, and prints its fewest split in edition 1: the size
+ * and then the end of each block, a line each. At the top of the repository, after
+ * `rt staticlib cegridom`:
  *
  *   cc -I include -o target/fewest examples/fewest.c target/staticlib/libcegridom.a
  *
@@ -28,8 +29,9 @@ int main(void) {
         return 1;
     }
     uint32_t size, index;
-    uint32_t result = cegridom_best_split(word, n, CEGRIDOM_FEWEST, ends, sizeof ends / sizeof *ends,
-                                          work, sizeof work / sizeof *work, &size, &index);
+    uint32_t result = cegridom_best_split(word, n, CEGRIDOM_EDITION_1, CEGRIDOM_FEWEST, ends,
+                                          sizeof ends / sizeof *ends, work,
+                                          sizeof work / sizeof *work, &size, &index);
     if (result == CEGRIDOM_NO_SPLIT) {
         puts("no split");
         return 0;

@@ -2,9 +2,10 @@
  * cegridom: repetition factorizations of words.
  *
  * A word is at most CEGRIDOM_LIMIT bytes, any byte value a symbol, with positions from 1. The unit
- * of a part is its smallest period. A block (repetition) is a part at least twice as long as its
- * unit; a run is a block that cannot be lengthened. A split (factorization) is a series of blocks
- * that join up to the word, given by the positions of their ends.
+ * of a part is its smallest period. A block (repetition) is a part at least 2 x its unit long in
+ * edition 1, and at least 3 x in edition 2. A run is a block of edition 1 that cannot be
+ * lengthened; runs and their numbers are the same in both editions. A split (factorization) is a
+ * series of blocks that join up to the word, given by the positions of their ends.
  *
  * Every call about words or plans returns 0 for accepted, else the number of the refusal: of those
  * that the call's comment lists, the first that is met, in the order listed. *index is the number
@@ -40,9 +41,9 @@ extern "C" {
 
 /* The version of this header, in numbers and as text; cegridom_version gives the archive's. */
 #define CEGRIDOM_VERSION_MAJOR 0
-#define CEGRIDOM_VERSION_MINOR 2
+#define CEGRIDOM_VERSION_MINOR 3
 #define CEGRIDOM_VERSION (1000 * CEGRIDOM_VERSION_MAJOR + CEGRIDOM_VERSION_MINOR)
-#define CEGRIDOM_VERSION_STRING "0.2"
+#define CEGRIDOM_VERSION_STRING "0.3"
 
 /* The longest word that is taken. */
 #define CEGRIDOM_LIMIT 4096
@@ -51,7 +52,7 @@ extern "C" {
 
 /* The places that a working table needs, for a word of n symbols. */
 #define CEGRIDOM_WORK_PLACES(n) (4 * ((n) + 1))
-/* The most ends that a split of a word of n symbols has. */
+/* The most ends that a split of a word of n symbols has in edition 1; in edition 2 they suffice. */
 #define CEGRIDOM_MOST_ENDS(n) ((n) / 2)
 /* The places that so many runs take: first, last, unit of each. */
 #define CEGRIDOM_RUN_PLACES(runs) (3 * (runs))
@@ -60,6 +61,11 @@ extern "C" {
 /* The most ends that a plan line of so many bytes has. CEGRIDOM_MOST_ENDS is not enough for reading
    one, since the pieces of a plan may be of length 1. */
 #define CEGRIDOM_PLAN_ENDS(bytes) ((bytes) < 15 ? 0 : ((bytes) - 15) / 5)
+
+/* Editions of the winder's controller, told to each call that tests for blocks or nodes: the old
+   winders hold a block from 2 x its unit on, the new one from 3 x its unit on. */
+#define CEGRIDOM_EDITION_1 1
+#define CEGRIDOM_EDITION_2 2
 
 /* Choices of cegridom_best_split. */
 #define CEGRIDOM_FEWEST 1
@@ -76,7 +82,7 @@ enum cegridom_result {
     /* an end not above the one before it (0 before the first), or above n */
     CEGRIDOM_BAD_END = 3,
     /* the piece up to this end is not a block; for a path, no run has that number, or the run does
-       not enclose the piece, or the piece is shorter than 2 x the run's unit */
+       not enclose the piece, or the piece is shorter than 2 x (edition 2: 3 x) the run's unit */
     CEGRIDOM_NOT_BLOCK = 4,
     /* the last end (0 if there are none) is not n */
     CEGRIDOM_UNFINISHED = 5,
@@ -91,7 +97,9 @@ enum cegridom_result {
     /* a path with an odd count of numbers */
     CEGRIDOM_ODD_PATH = 10,
     /* bytes that are not one plan line, or whose count of ends differs from the one stated */
-    CEGRIDOM_NOT_PLAN = 11
+    CEGRIDOM_NOT_PLAN = 11,
+    /* an edition other than 1 or 2 */
+    CEGRIDOM_BAD_EDITION = 12
 };
 
 /* The text of a result, for every number. */
@@ -107,8 +115,8 @@ static inline const char *cegridom_message(uint32_t result) {
         return "an end not above the one before it (0 before the first), or above n";
     case CEGRIDOM_NOT_BLOCK:
         return "the piece up to this end is not a block; for a path, no run has that number, or "
-               "the run does not enclose the piece, or the piece is shorter than 2 x the run's "
-               "unit";
+               "the run does not enclose the piece, or the piece is shorter than 2 x (edition 2: "
+               "3 x) the run's unit";
     case CEGRIDOM_UNFINISHED:
         return "the last end (0 if there are none) is not n";
     case CEGRIDOM_BAD_POSITION:
@@ -125,6 +133,8 @@ static inline const char *cegridom_message(uint32_t result) {
     case CEGRIDOM_NOT_PLAN:
         return "bytes that are not one plan line, or whose count of ends differs from the one "
                "stated";
+    case CEGRIDOM_BAD_EDITION:
+        return "an edition other than 1 or 2";
     default:
         return "unknown result";
     }
@@ -138,12 +148,14 @@ uint32_t cegridom_version(void);
 
 /*
  * Part: of the symbols at the positions first to last, the unit, the turns (the length divided by
- * the unit, rounded down), the rest (the remainder), and 1 for a block or 0.
- * Reads word. Refusals: 1, 6.
+ * the unit, rounded down), the rest (the remainder), and 1 for a block of the edition or 0. Unit,
+ * turns and rest do not depend on the edition.
+ * Reads word. Refusals: 1, 12, 6.
  * Time at most the product of the part's length and its unit.
  */
-uint32_t cegridom_part(const uint8_t *word, size_t n, uint32_t first, uint32_t last, uint32_t *unit,
-                       uint32_t *turns, uint32_t *rest, uint32_t *block, uint32_t *index);
+uint32_t cegridom_part(const uint8_t *word, size_t n, uint32_t edition, uint32_t first,
+                       uint32_t last, uint32_t *unit, uint32_t *turns, uint32_t *rest,
+                       uint32_t *block, uint32_t *index);
 
 /*
  * Runs: writes first, last and unit of each run to table, by first and then by unit, which is the
@@ -159,56 +171,60 @@ uint32_t cegridom_runs(const uint8_t *word, size_t n, uint32_t *table, size_t pl
 
 /*
  * Nodes: writes the numbers of the runs that have a white node at the position, rising, to table,
- * and gives their count. A run has one at each position from first + 2 x unit - 1 to last.
- * Reads word; changes the first count places of table. Refusals: 1, 6, 7.
+ * and gives their count. A run has one at each position from first + 2 x unit - 1 (in edition 2,
+ * first + 3 x unit - 1) to last.
+ * Reads word; changes the first count places of table. Refusals: 1, 12, 6, 7.
  * n places suffice, by the theorem that the comment of cegridom_runs names.
  * Time at most quadratic in n; 65 KiB of stack.
  */
-uint32_t cegridom_nodes(const uint8_t *word, size_t n, uint32_t position, uint32_t *table,
-                        size_t places, uint32_t *count, uint32_t *index);
+uint32_t cegridom_nodes(const uint8_t *word, size_t n, uint32_t edition, uint32_t position,
+                        uint32_t *table, size_t places, uint32_t *count, uint32_t *index);
 
 /*
  * Best split: writes the ends of the split with the fewest (choice 1) or the most (choice 2)
- * blocks, and gives its size, the number of its blocks. Of the splits of that size it is the one
- * whose last block is longest, then the one before it, and so on.
- * Reads word; changes the first size places of ends. Refusals: 1, 8, 9, 2, 7.
+ * blocks of the edition, and gives its size, the number of its blocks. Of the splits of that size
+ * it is the one whose last block is longest, then the one before it, and so on.
+ * Reads word; changes the first size places of ends. Refusals: 1, 12, 8, 9, 2, 7.
  * The working table afterwards holds in its first n + 1 places the best size of each prefix length
  * 0 to n, CEGRIDOM_NONE where the prefix has no split, and 0 in the following 3 x (n+1); after an
- * answer and after refusals 2 and 7 alike. After 1, 8 and 9 it keeps its contents. Places past
+ * answer and after refusals 2 and 7 alike. After 1, 12, 8 and 9 it keeps its contents. Places past
  * 4 x (n+1) never change.
  * Time at most quadratic in n; 192 bytes of stack and 48 a block of the split, 97 KiB at most.
  */
-uint32_t cegridom_best_split(const uint8_t *word, size_t n, uint32_t choice, uint32_t *ends,
-                             size_t end_places, uint32_t *work, size_t work_places, uint32_t *size,
-                             uint32_t *index);
+uint32_t cegridom_best_split(const uint8_t *word, size_t n, uint32_t edition, uint32_t choice,
+                             uint32_t *ends, size_t end_places, uint32_t *work, size_t work_places,
+                             uint32_t *size, uint32_t *index);
 
 /*
- * Judge a split: accepted, with the number of blocks, exactly when the ends are those of a split.
- * Reads word and ends. Refusals: 1; then for each end in turn 3, 4; then 5.
+ * Judge a split: accepted, with the number of blocks, exactly when the ends are those of a split
+ * into blocks of the edition.
+ * Reads word and ends. Refusals: 1; 12; then for each end in turn 3, 4; then 5.
  * Time at most quadratic in n.
  */
-uint32_t cegridom_judge_split(const uint8_t *word, size_t n, const uint32_t *ends, size_t end_count,
-                              uint32_t *blocks, uint32_t *index);
+uint32_t cegridom_judge_split(const uint8_t *word, size_t n, uint32_t edition, const uint32_t *ends,
+                              size_t end_count, uint32_t *blocks, uint32_t *index);
 
 /*
  * Path of a split: writes the run number of each block to table, and gives the number of blocks.
  * It is that of the one run that encloses the block and has its unit.
  * Reads word and ends; changes the first blocks places of table.
- * Refusals: 1; then for each end in turn 3, 4; then 5; then 7.
+ * Refusals: 1; 12; then for each end in turn 3, 4; then 5; then 7.
  * Time at most quadratic in n; 81 KiB of stack.
  */
-uint32_t cegridom_path_of_split(const uint8_t *word, size_t n, const uint32_t *ends,
-                                size_t end_count, uint32_t *table, size_t places, uint32_t *blocks,
-                                uint32_t *index);
+uint32_t cegridom_path_of_split(const uint8_t *word, size_t n, uint32_t edition,
+                                const uint32_t *ends, size_t end_count, uint32_t *table,
+                                size_t places, uint32_t *blocks, uint32_t *index);
 
 /*
  * Judge a path, given for each block as a run number and then an end: accepted, with the number of
- * blocks, exactly when the numbers are those of a path of length n in the graph of the runs.
- * Reads word and numbers. Refusals: 1; 10; then for each end in turn 3, 4; then 5.
+ * blocks, exactly when the numbers are those of a path of length n in the edition's graph of the
+ * runs.
+ * Reads word and numbers. Refusals: 1; 12; 10; then for each end in turn 3, 4; then 5.
  * Time at most quadratic in n; 81 KiB of stack.
  */
-uint32_t cegridom_judge_path(const uint8_t *word, size_t n, const uint32_t *numbers,
-                             size_t number_count, uint32_t *blocks, uint32_t *index);
+uint32_t cegridom_judge_path(const uint8_t *word, size_t n, uint32_t edition,
+                             const uint32_t *numbers, size_t number_count, uint32_t *blocks,
+                             uint32_t *index);
 
 /*
  * Write a plan: writes the plan line of n and the ends to out, and gives its count of bytes. The

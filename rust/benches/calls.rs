@@ -10,15 +10,16 @@
 //! The second times only the calls whose names have that word. `cargo test --benches` compares the
 //! answers and times nothing.
 //!
-//! Buffers are allocated once and not cleared between calls. Each figure is processor time, the
-//! least of several batches, those of the library and of the twin taking turns.
+//! A call that is told an edition has a row for each, on the same words. Buffers are allocated once
+//! and not cleared between calls. Each figure is processor time, the least of several batches, those
+//! of the library and of the twin taking turns.
 
 mod twin;
 #[path = "../tests/words/mod.rs"]
 #[allow(dead_code)]
 mod words;
 
-use cegridom::{raw, Choice};
+use cegridom::{raw, Choice, Edition};
 use std::hint::black_box;
 use words::{fibonacci, last_differs, thue_morse};
 
@@ -81,6 +82,8 @@ impl Buffers {
 /// What the calls are given.
 struct Input {
     word: Vec<u8>,
+    /// Its number.
+    edition: u32,
     ends: Vec<u32>,
     path: Vec<u32>,
     plan_ends: Vec<u32>,
@@ -88,20 +91,30 @@ struct Input {
 }
 
 impl Input {
-    /// The split with the most blocks, where there is one; else the whole word as one block.
-    fn new(word: Vec<u8>) -> Input {
+    /// The edition's split with the most blocks, where there is one; else the whole word as one
+    /// block.
+    fn new(word: Vec<u8>, edition: Edition) -> Input {
         let n = word.len() as u32;
-        let ends = cegridom::best_split(&word, Choice::Most).unwrap_or(vec![n]);
-        let runs = cegridom::path_of_split(&word, &ends).unwrap_or(vec![1]);
+        let ends = cegridom::best_split(&word, edition, Choice::Most).unwrap_or(vec![n]);
+        let runs = cegridom::path_of_split(&word, edition, &ends).unwrap_or(vec![1]);
         let path = runs.iter().zip(&ends).flat_map(|(&r, &e)| [r, e]).collect();
         let plan_ends: Vec<u32> = (1..=n / 2).map(|k| 2 * k).collect();
         let plan = cegridom::write_plan(word.len(), &plan_ends).unwrap();
         Input {
             word,
+            edition: edition.number(),
             ends,
             path,
             plan_ends,
             plan,
+        }
+    }
+
+    /// The same word, split and path, told another edition.
+    fn told(self, edition: Edition) -> Input {
+        Input {
+            edition: edition.number(),
+            ..self
         }
     }
 }
@@ -117,10 +130,12 @@ fn answer<const N: usize>(call: impl FnOnce(&mut [u32; N], &mut u32) -> u32) -> 
     }
 }
 
-/// A call's name, whether its time depends on the word, and the call by the library and its twin.
+/// A call's name, whether its time depends on the word, whether it is told an edition, and the call
+/// by the library and its twin.
 struct Call {
     name: &'static str,
     on_words: bool,
+    in_editions: bool,
     library: fn(&Input, &mut Buffers) -> Answer,
     twin: fn(&Input, &mut Buffers) -> Answer,
 }
@@ -134,6 +149,7 @@ fn library_best(input: &Input, b: &mut Buffers, choice: Choice) -> Answer {
         raw::cegridom_best_split(
             w.as_ptr(),
             w.len(),
+            input.edition,
             choice.number(),
             e.as_mut_ptr(),
             e.len(),
@@ -146,24 +162,30 @@ fn library_best(input: &Input, b: &mut Buffers, choice: Choice) -> Answer {
 }
 
 fn twin_best(input: &Input, b: &mut Buffers, choice: Choice) -> Answer {
-    twin::best_split(&input.word, choice.number(), &mut b.table, &mut b.work).map(|v| vec![v])
+    let (w, choice) = (&input.word, choice.number());
+    twin::best_split(w, input.edition, choice, &mut b.table, &mut b.work).map(|v| vec![v])
 }
 
 static CALLS: [Call; 10] = [
     Call {
         name: "part",
         on_words: true,
+        in_editions: true,
         library: |input, _| {
-            let (w, n) = (input.word.as_ptr(), input.word.len());
+            let (w, n, edition) = (input.word.as_ptr(), input.word.len(), input.edition);
             answer(|[unit, turns, rest, block], index| unsafe {
-                raw::cegridom_part(w, n, 1, n as u32, unit, turns, rest, block, index)
+                raw::cegridom_part(w, n, edition, 1, n as u32, unit, turns, rest, block, index)
             })
         },
-        twin: |input, _| twin::part(&input.word, 1, input.word.len() as u32).map(|v| v.to_vec()),
+        twin: |input, _| {
+            let w = &input.word;
+            twin::part(w, input.edition, 1, w.len() as u32).map(|v| v.to_vec())
+        },
     },
     Call {
         name: "runs",
         on_words: true,
+        in_editions: false,
         library: |input, b| {
             let (w, t) = (&input.word, &mut b.table);
             answer(|[count], index| unsafe {
@@ -175,48 +197,68 @@ static CALLS: [Call; 10] = [
     Call {
         name: "nodes, last position",
         on_words: true,
+        in_editions: true,
         library: |input, b| {
-            let (w, n, t) = (input.word.as_ptr(), input.word.len(), &mut b.table);
+            let (w, n, edition) = (input.word.as_ptr(), input.word.len(), input.edition);
+            let t = &mut b.table;
             answer(|[count], index| unsafe {
-                raw::cegridom_nodes(w, n, n as u32, t.as_mut_ptr(), t.len(), count, index)
+                raw::cegridom_nodes(
+                    w,
+                    n,
+                    edition,
+                    n as u32,
+                    t.as_mut_ptr(),
+                    t.len(),
+                    count,
+                    index,
+                )
             })
         },
         twin: |input, b| {
-            twin::nodes(&input.word, input.word.len() as u32, &mut b.table).map(|v| vec![v])
+            let w = &input.word;
+            twin::nodes(w, input.edition, w.len() as u32, &mut b.table).map(|v| vec![v])
         },
     },
     Call {
         name: "best split, fewest",
         on_words: true,
+        in_editions: true,
         library: |input, b| library_best(input, b, Choice::Fewest),
         twin: |input, b| twin_best(input, b, Choice::Fewest),
     },
     Call {
         name: "best split, most",
         on_words: true,
+        in_editions: true,
         library: |input, b| library_best(input, b, Choice::Most),
         twin: |input, b| twin_best(input, b, Choice::Most),
     },
     Call {
         name: "judge a split",
         on_words: true,
+        in_editions: true,
         library: |input, _| {
-            let (w, e) = (&input.word, &input.ends);
+            let (w, n, edition) = (input.word.as_ptr(), input.word.len(), input.edition);
+            let e = &input.ends;
             answer(|[blocks], index| unsafe {
-                raw::cegridom_judge_split(w.as_ptr(), w.len(), e.as_ptr(), e.len(), blocks, index)
+                raw::cegridom_judge_split(w, n, edition, e.as_ptr(), e.len(), blocks, index)
             })
         },
-        twin: |input, _| twin::judge_split(&input.word, &input.ends).map(|v| vec![v]),
+        twin: |input, _| {
+            twin::judge_split(&input.word, input.edition, &input.ends).map(|v| vec![v])
+        },
     },
     Call {
         name: "path of a split",
         on_words: true,
+        in_editions: true,
         library: |input, b| {
             let (w, e, t) = (&input.word, &input.ends, &mut b.table);
             answer(|[blocks], index| unsafe {
                 raw::cegridom_path_of_split(
                     w.as_ptr(),
                     w.len(),
+                    input.edition,
                     e.as_ptr(),
                     e.len(),
                     t.as_mut_ptr(),
@@ -227,23 +269,27 @@ static CALLS: [Call; 10] = [
             })
         },
         twin: |input, b| {
-            twin::path_of_split(&input.word, &input.ends, &mut b.table).map(|v| vec![v])
+            let (w, e) = (&input.word, &input.ends);
+            twin::path_of_split(w, input.edition, e, &mut b.table).map(|v| vec![v])
         },
     },
     Call {
         name: "judge a path",
         on_words: true,
+        in_editions: true,
         library: |input, _| {
-            let (w, p) = (&input.word, &input.path);
+            let (w, n, edition) = (input.word.as_ptr(), input.word.len(), input.edition);
+            let p = &input.path;
             answer(|[blocks], index| unsafe {
-                raw::cegridom_judge_path(w.as_ptr(), w.len(), p.as_ptr(), p.len(), blocks, index)
+                raw::cegridom_judge_path(w, n, edition, p.as_ptr(), p.len(), blocks, index)
             })
         },
-        twin: |input, _| twin::judge_path(&input.word, &input.path).map(|v| vec![v]),
+        twin: |input, _| twin::judge_path(&input.word, input.edition, &input.path).map(|v| vec![v]),
     },
     Call {
         name: "write a plan",
         on_words: false,
+        in_editions: false,
         library: |input, b| {
             let (n, e, out) = (input.word.len() as u32, &input.plan_ends, &mut b.line);
             answer(|[bytes], index| unsafe {
@@ -266,6 +312,7 @@ static CALLS: [Call; 10] = [
     Call {
         name: "read a plan",
         on_words: false,
+        in_editions: false,
         library: |input, b| {
             let (s, t) = (&input.plan, &mut b.table);
             answer(|[n, count], index| unsafe {
@@ -327,13 +374,18 @@ fn agreed(call: &Call, input: &Input, ours: &mut Buffers, theirs: &mut Buffers) 
     given
 }
 
+/// How many calls by the library make a batch.
+fn times_of(call: &Call, input: &Input, buffers: &mut Buffers) -> usize {
+    let once = batch(call.library, input, buffers, 1);
+    (BATCH_SECONDS / once).ceil().max(1.0) as usize
+}
+
 /// The library's time and its twin's, in seconds, and what both answered.
 fn measure(call: &Call, input: &Input) -> (f64, f64, Answer) {
     let n = input.word.len();
     let (mut ours, mut theirs) = (Buffers::new(n), Buffers::new(n));
     let given = agreed(call, input, &mut ours, &mut theirs);
-    let once = batch(call.library, input, &mut ours, 1);
-    let times = (BATCH_SECONDS / once).ceil().max(1.0) as usize;
+    let times = times_of(call, input, &mut ours);
     let (mut library, mut twin) = (f64::MAX, f64::MAX);
     for _ in 0..BATCHES {
         library = library.min(batch(call.library, input, &mut ours, times));
@@ -342,9 +394,26 @@ fn measure(call: &Call, input: &Input) -> (f64, f64, Answer) {
     (library, twin, given)
 }
 
+/// The library's time in edition 2 over that in edition 1, for the same word, split and path.
+fn to_first(call: &Call, word: &[u8]) -> f64 {
+    let second = Input::new(word.to_vec(), Edition::Two);
+    let first = Input::new(word.to_vec(), Edition::Two).told(Edition::One);
+    let mut buffers = Buffers::new(word.len());
+    let times = times_of(call, &second, &mut buffers);
+    let times_first = times_of(call, &first, &mut buffers);
+    let (mut two, mut one) = (f64::MAX, f64::MAX);
+    for _ in 0..BATCHES {
+        two = two.min(batch(call.library, &second, &mut buffers, times));
+        one = one.min(batch(call.library, &first, &mut buffers, times_first));
+    }
+    two / one
+}
+
 /// One row of the table.
 struct Row {
     call: &'static str,
+    /// None where the call is told none.
+    edition: Option<Edition>,
     word: &'static str,
     /// The library's time at each length, in seconds.
     times: [f64; LENGTHS.len()],
@@ -352,12 +421,15 @@ struct Row {
     twin: f64,
     /// What both answered there.
     given: Answer,
+    /// For a row of edition 2, what it takes there of edition 1's time.
+    to_first: Option<f64>,
 }
 
 impl Row {
-    fn new(call: &'static Call, (word, make): Family) -> Row {
+    fn new(call: &'static Call, (word, make): Family, edition: Edition) -> Row {
         let mut row = Row {
             call: call.name,
+            edition: call.in_editions.then_some(edition),
             word: if call.on_words {
                 word
             } else {
@@ -366,9 +438,13 @@ impl Row {
             times: [0.0; LENGTHS.len()],
             twin: 0.0,
             given: Ok(vec![]),
+            to_first: None,
         };
         for (time, n) in row.times.iter_mut().zip(LENGTHS) {
-            (*time, row.twin, row.given) = measure(call, &Input::new(make(n)));
+            (*time, row.twin, row.given) = measure(call, &Input::new(make(n), edition));
+        }
+        if edition == Edition::Two {
+            row.to_first = Some(to_first(call, &make(LENGTHS[LENGTHS.len() - 1])));
         }
         row
     }
@@ -386,13 +462,17 @@ impl Row {
     }
 
     fn print(&self) {
+        let edition = self
+            .edition
+            .map_or("–".to_string(), |e| e.number().to_string());
+        let to_first = self.to_first.map_or("–".to_string(), |r| format!("{r:.2}"));
         let said = match self.given {
             Ok(_) => "accepted".to_string(),
             Err((number, _)) => format!("refused {number}"),
         };
         let times = self.times.map(|t| format!("{:.1}", t * MICRO)).join(" | ");
         println!(
-            "| {} | {} | {said} | {times} | {:.2} | {:.1} | {:.2} |",
+            "| {} | {edition} | {} | {said} | {times} | {:.2} | {:.1} | {:.2} | {to_first} |",
             self.call,
             self.word,
             self.growth(),
@@ -407,25 +487,34 @@ fn families(call: &Call) -> &'static [Family] {
     &FAMILIES[..if call.on_words { FAMILIES.len() } else { 1 }]
 }
 
+/// The editions that a call is tried in: one is enough where it is told none.
+fn editions(call: &Call) -> &'static [Edition] {
+    const BOTH: [Edition; 2] = [Edition::One, Edition::Two];
+    &BOTH[..if call.in_editions { BOTH.len() } else { 1 }]
+}
+
 fn time(calls: impl Iterator<Item = &'static Call>) {
-    println!("Time of one call in microseconds, by the length of the word; growth is the factor for each doubling, on average from 512 to 4,096 (4 is quadratic); ratio is the library's time over the twin's at 4,096.\n");
+    println!("Time of one call in microseconds, by the length of the word; growth is the factor for each doubling, on average from 512 to 4,096 (4 is quadratic); ratio is the library's time over the twin's at 4,096; to edition 1 is the library's time in edition 2 over that in edition 1, for the same word of 4,096 symbols and the same split or path. A split or path that is judged is the edition's own; in edition 2, for both times of the last column, edition 2's.\n");
     println!(
-        "| call | word | answer | 512 | 1,024 | 2,048 | 4,096 | growth | twin, 4,096 | ratio |"
+        "| call | edition | word | answer | 512 | 1,024 | 2,048 | 4,096 | growth | twin, 4,096 | ratio | to edition 1 |"
     );
-    println!("|---|---|---|--:|--:|--:|--:|--:|--:|--:|");
+    println!("|---|---|---|---|--:|--:|--:|--:|--:|--:|--:|--:|");
     let mut rows = Vec::new();
     for call in calls {
         for &family in families(call) {
-            let row = Row::new(call, family);
-            row.print();
-            rows.push(row);
+            for &edition in editions(call) {
+                let row = Row::new(call, family, edition);
+                row.print();
+                rows.push(row);
+            }
         }
     }
     let best_splits = rows.iter().filter(|row| row.call.starts_with("best split"));
     println!(
-        "\nWorst ratio {:.2}, worst growth {:.2}; slowest best split of 4,096 symbols {:.1} ms.",
+        "\nWorst ratio {:.2}, worst growth {:.2}, worst to edition 1 {:.2}; slowest best split of 4,096 symbols {:.1} ms.",
         greatest(rows.iter().map(Row::ratio)),
         greatest(rows.iter().map(Row::growth)),
+        greatest(rows.iter().filter_map(|row| row.to_first)),
         greatest(best_splits.map(Row::longest)) * MILLI
     );
     for row in rows.iter().filter(|row| row.ratio() > MOST_RATIO) {
@@ -443,8 +532,10 @@ fn compare(calls: impl Iterator<Item = &'static Call>) {
     let n = LENGTHS[0];
     for call in calls {
         for (_, make) in families(call) {
-            let (mut ours, mut theirs) = (Buffers::new(n), Buffers::new(n));
-            agreed(call, &Input::new(make(n)), &mut ours, &mut theirs).ok();
+            for &edition in editions(call) {
+                let (mut ours, mut theirs) = (Buffers::new(n), Buffers::new(n));
+                agreed(call, &Input::new(make(n), edition), &mut ours, &mut theirs).ok();
+            }
         }
     }
 }

@@ -1,12 +1,12 @@
-//! Reads a lay-up, one line from standard input, and prints its fewest split: the size and then the
-//! end of each block, a line each; `no split` where there is none. In `rust/`, after
+//! Reads a lay-up, one line from standard input, and prints its fewest split in edition 1: the size
+//! and then the end of each block, a line each; `no split` where there is none. In `rust/`, after
 //! `rt staticlib cegridom` at the top of the repository:
 //!
 //! ```sh
 //! printf abaabaababaabaabababa | cargo run --release --offline --example fewest
 //! ```
 
-use cegridom::{best_split, Choice, Refusal, LIMIT};
+use cegridom::{best_split, Choice, Edition, Refusal, LIMIT};
 use std::error::Error;
 use std::io::{self, BufRead, Write};
 use std::process::ExitCode;
@@ -23,7 +23,7 @@ fn main() -> ExitCode {
 
 /// Reads a word and prints its fewest split.
 pub fn run(input: impl BufRead, mut output: impl Write) -> Result<(), Box<dyn Error>> {
-    match best_split(&read_word(input)?, Choice::Fewest) {
+    match best_split(&read_word(input)?, Edition::One, Choice::Fewest) {
         Ok(ends) => {
             writeln!(output, "{}", ends.len())?;
             for end in ends {

@@ -7,6 +7,25 @@
 use crate::raw::{self, RUN_PLACES, STEP_PLACES};
 use crate::Refusal;
 
+/// The edition of the winder's controller, which says how long a block is at least.
+#[derive(Clone, Copy, Debug, PartialEq, Eq, Hash)]
+pub enum Edition {
+    /// The old winders: a block is at least twice as long as its unit. Edition 1.
+    One,
+    /// The new winder: a block is at least three times as long as its unit. Edition 2.
+    Two,
+}
+
+impl Edition {
+    /// The number of the edition, which the functions in [`raw`] take.
+    pub const fn number(self) -> u32 {
+        match self {
+            Edition::One => 1,
+            Edition::Two => 2,
+        }
+    }
+}
+
 /// Whether the split with the fewest or with the most blocks is wanted.
 #[derive(Clone, Copy, Debug, PartialEq, Eq, Hash)]
 pub enum Choice {
@@ -36,11 +55,11 @@ pub struct Part {
     pub turns: u32,
     /// The remainder of that division.
     pub rest: u32,
-    /// Whether the part is a block: at least twice as long as its unit.
+    /// Whether the part is a block of the edition.
     pub block: bool,
 }
 
-/// A run: a block that cannot be lengthened. Positions count from 1.
+/// A run: a block of edition 1 that cannot be lengthened. Positions count from 1.
 #[derive(Clone, Copy, Debug, Default, PartialEq, Eq, Hash)]
 #[repr(C)]
 pub struct Run {
@@ -94,22 +113,29 @@ pub fn version() -> (u32, u32) {
 }
 
 /// The unit, the turns and the rest of the symbols at the positions `first` to `last`, and whether
-/// they are a block.
+/// they are a block. Only the last depends on the edition.
 ///
 /// Refusals: 1, 6. Time at most the product of the part's length and its unit.
 ///
 /// ```
-/// use cegridom::{part, Refusal};
+/// use cegridom::{part, Edition, Refusal};
 ///
-/// let p = part(b"ababa", 1, 5).unwrap();
+/// let p = part(b"ababa", Edition::One, 1, 5).unwrap();
 /// assert_eq!((p.unit, p.turns, p.rest, p.block), (2, 2, 1, true));
-/// assert_eq!(part(b"ababa", 2, 6), Err(Refusal::BadPosition));
+/// let p = part(b"ababa", Edition::Two, 1, 5).unwrap();
+/// assert_eq!((p.unit, p.turns, p.rest, p.block), (2, 2, 1, false));
+/// assert_eq!(part(b"ababa", Edition::One, 2, 6), Err(Refusal::BadPosition));
 /// ```
-pub fn part(word: &[u8], first: u32, last: u32) -> Result<Part, Refusal> {
+pub fn part(word: &[u8], edition: Edition, first: u32, last: u32) -> Result<Part, Refusal> {
     let (n, word) = (word.len(), word.as_ptr());
+    let edition = edition.number();
     values(|[unit, turns, rest, block], index| {
         // SAFETY: as said at the head of this file.
-        unsafe { raw::cegridom_part(word, n, first, last, unit, turns, rest, block, index) }
+        unsafe {
+            raw::cegridom_part(
+                word, n, edition, first, last, unit, turns, rest, block, index,
+            )
+        }
     })
     .map(|[unit, turns, rest, block]| Part {
         unit,
@@ -141,21 +167,31 @@ pub fn runs_into(word: &[u8], table: &mut [Run]) -> Result<usize, Refusal> {
 }
 
 /// Writes the numbers of the runs that have a white node at a position, rising, and gives how many
-/// there are. A run has one at each position from `first + 2 * unit - 1` to `last`.
+/// there are. A run has one at each position from `first + 2 * unit - 1` to `last`; in edition 2,
+/// from `first + 3 * unit - 1`.
 ///
 /// Refusals: 1, 6, 7. Time at most quadratic in the length; 65 KiB of stack.
 ///
 /// ```
+/// use cegridom::{nodes_into, Edition};
+///
 /// let mut table = [0; 3];
-/// assert_eq!(cegridom::nodes_into(b"aabaabaa", 8, &mut table), Ok(2));
+/// assert_eq!(nodes_into(b"aabaabaa", Edition::One, 8, &mut table), Ok(2));
 /// assert_eq!(table, [2, 4, 0]);
+/// assert_eq!(nodes_into(b"aabaabaa", Edition::Two, 8, &mut table), Ok(0));
 /// ```
-pub fn nodes_into(word: &[u8], position: u32, table: &mut [u32]) -> Result<usize, Refusal> {
+pub fn nodes_into(
+    word: &[u8],
+    edition: Edition,
+    position: u32,
+    table: &mut [u32],
+) -> Result<usize, Refusal> {
     let (n, word) = (word.len(), word.as_ptr());
+    let edition = edition.number();
     let (places, table) = (table.len(), table.as_mut_ptr());
     // SAFETY: as said at the head of this file.
     count(|count, index| unsafe {
-        raw::cegridom_nodes(word, n, position, table, places, count, index)
+        raw::cegridom_nodes(word, n, edition, position, table, places, count, index)
     })
 }
 
@@ -172,22 +208,27 @@ pub fn nodes_into(word: &[u8], position: u32, table: &mut [u32]) -> Result<usize
 /// `3 * (n + 1)` hold 0. After 1 and 9 it keeps its contents.
 ///
 /// ```
-/// use cegridom::{best_split_into, work_places, Choice, NONE};
+/// use cegridom::{best_split_into, work_places, Choice, Edition, NONE};
 ///
 /// let mut ends = [9; 3];
 /// let mut work = [9; work_places(4)];
-/// assert_eq!(best_split_into(b"aaaa", Choice::Most, &mut ends, &mut work), Ok(2));
+/// assert_eq!(best_split_into(b"aaaa", Edition::One, Choice::Most, &mut ends, &mut work), Ok(2));
 /// assert_eq!(ends, [2, 4, 9]);
 /// assert_eq!(work[..5], [0, NONE, 1, 1, 2]);
+///
+/// assert_eq!(best_split_into(b"aaaa", Edition::Two, Choice::Most, &mut ends, &mut work), Ok(1));
+/// assert_eq!(ends, [4, 4, 9]);
+/// assert_eq!(work[..5], [0, NONE, NONE, 1, 1]);
 /// ```
 pub fn best_split_into(
     word: &[u8],
+    edition: Edition,
     choice: Choice,
     ends: &mut [u32],
     work: &mut [u32],
 ) -> Result<usize, Refusal> {
     let (n, word) = (word.len(), word.as_ptr());
-    let choice = choice.number();
+    let (edition, choice) = (edition.number(), choice.number());
     let (end_places, ends) = (ends.len(), ends.as_mut_ptr());
     let (work_places, work) = (work.len(), work.as_mut_ptr());
     // SAFETY: as said at the head of this file.
@@ -195,6 +236,7 @@ pub fn best_split_into(
         raw::cegridom_best_split(
             word,
             n,
+            edition,
             choice,
             ends,
             end_places,
@@ -211,19 +253,22 @@ pub fn best_split_into(
 /// Refusals: 1; then for each end in turn 3, 4; then 5. Time at most quadratic in the length.
 ///
 /// ```
-/// use cegridom::{judge_split, Refusal};
+/// use cegridom::{judge_split, Edition, Refusal};
 ///
-/// assert_eq!(judge_split(b"aabaabaa", &[2, 8]), Ok(2));
-/// assert_eq!(judge_split(b"aabaabaa", &[3, 8]), Err(Refusal::NotBlock { index: 1 }));
-/// assert_eq!(judge_split(b"aabaabaa", &[2, 2, 8]), Err(Refusal::BadEnd { index: 2 }));
-/// assert_eq!(judge_split(b"aabaabaa", &[]), Err(Refusal::Unfinished));
+/// let (word, one) = (b"aabaabaa", Edition::One);
+/// assert_eq!(judge_split(word, one, &[2, 8]), Ok(2));
+/// assert_eq!(judge_split(word, one, &[3, 8]), Err(Refusal::NotBlock { index: 1 }));
+/// assert_eq!(judge_split(word, one, &[2, 2, 8]), Err(Refusal::BadEnd { index: 2 }));
+/// assert_eq!(judge_split(word, one, &[]), Err(Refusal::Unfinished));
+/// assert_eq!(judge_split(word, Edition::Two, &[8]), Err(Refusal::NotBlock { index: 1 }));
 /// ```
-pub fn judge_split(word: &[u8], ends: &[u32]) -> Result<usize, Refusal> {
+pub fn judge_split(word: &[u8], edition: Edition, ends: &[u32]) -> Result<usize, Refusal> {
     let (n, word) = (word.len(), word.as_ptr());
+    let edition = edition.number();
     let (end_count, ends) = (ends.len(), ends.as_ptr());
     // SAFETY: as said at the head of this file.
     count(|blocks, index| unsafe {
-        raw::cegridom_judge_split(word, n, ends, end_count, blocks, index)
+        raw::cegridom_judge_split(word, n, edition, ends, end_count, blocks, index)
     })
 }
 
@@ -234,42 +279,56 @@ pub fn judge_split(word: &[u8], ends: &[u32]) -> Result<usize, Refusal> {
 /// length; 81 KiB of stack.
 ///
 /// ```
+/// use cegridom::{path_of_split_into, Edition};
+///
 /// let mut table = [9; 3];
-/// assert_eq!(cegridom::path_of_split_into(b"aabaabaa", &[2, 8], &mut table), Ok(2));
+/// assert_eq!(path_of_split_into(b"aabaabaa", Edition::One, &[2, 8], &mut table), Ok(2));
 /// assert_eq!(table, [1, 2, 9]);
 /// ```
-pub fn path_of_split_into(word: &[u8], ends: &[u32], table: &mut [u32]) -> Result<usize, Refusal> {
+pub fn path_of_split_into(
+    word: &[u8],
+    edition: Edition,
+    ends: &[u32],
+    table: &mut [u32],
+) -> Result<usize, Refusal> {
     let (n, word) = (word.len(), word.as_ptr());
+    let edition = edition.number();
     let (end_count, ends) = (ends.len(), ends.as_ptr());
     let (places, table) = (table.len(), table.as_mut_ptr());
     // SAFETY: as said at the head of this file.
     count(|blocks, index| unsafe {
-        raw::cegridom_path_of_split(word, n, ends, end_count, table, places, blocks, index)
+        raw::cegridom_path_of_split(
+            word, n, edition, ends, end_count, table, places, blocks, index,
+        )
     })
 }
 
-/// Judges a path in the graph of the runs: the number of its blocks, or what is wrong with it.
+/// Judges a path in the edition's graph of the runs: the number of its blocks, or what is wrong with
+/// it.
 ///
 /// Refusals: 1; then for each end in turn 3, 4; then 5. Time at most quadratic in the length;
 /// 81 KiB of stack.
 ///
 /// ```
-/// use cegridom::{judge_path, Refusal, Step};
+/// use cegridom::{judge_path, Edition, Refusal, Step};
 ///
+/// let (word, one) = (b"aabaabaa", Edition::One);
 /// let first = Step { run: 1, end: 2 };
-/// assert_eq!(judge_path(b"aabaabaa", &[first, Step { run: 2, end: 8 }]), Ok(2));
+/// assert_eq!(judge_path(word, one, &[first, Step { run: 2, end: 8 }]), Ok(2));
 /// assert_eq!(
-///     judge_path(b"aabaabaa", &[first, Step { run: 4, end: 8 }]),
+///     judge_path(word, one, &[first, Step { run: 4, end: 8 }]),
 ///     Err(Refusal::NotBlock { index: 2 })
 /// );
-/// assert_eq!(judge_path(b"aabaabaa", &[first]), Err(Refusal::Unfinished));
+/// assert_eq!(judge_path(word, one, &[first]), Err(Refusal::Unfinished));
+/// assert_eq!(judge_path(word, Edition::Two, &[first]), Err(Refusal::NotBlock { index: 1 }));
 /// ```
-pub fn judge_path(word: &[u8], path: &[Step]) -> Result<usize, Refusal> {
+pub fn judge_path(word: &[u8], edition: Edition, path: &[Step]) -> Result<usize, Refusal> {
     let (n, word) = (word.len(), word.as_ptr());
+    let edition = edition.number();
     let (number_count, numbers) = (STEP_PLACES * path.len(), path.as_ptr().cast());
     // SAFETY: as said at the head of this file; a step is `STEP_PLACES` numbers.
     count(|blocks, index| unsafe {
-        raw::cegridom_judge_path(word, n, numbers, number_count, blocks, index)
+        raw::cegridom_judge_path(word, n, edition, numbers, number_count, blocks, index)
     })
 }
 

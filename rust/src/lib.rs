@@ -2,20 +2,23 @@
 //!
 //! A *word* is a slice of bytes, at most [`LIMIT`] of them; any byte value is a symbol, and
 //! positions count from 1. The *unit* of a part is the smallest distance at which no two of its
-//! symbols differ. A *block* is a part at least twice as long as its unit; a *run* is a block that
-//! cannot be lengthened. A *split* of a word is a series of blocks that join up to it, given by the
-//! positions of their ends. The field calls a block a repetition, its unit its smallest period, and
-//! a split a repetition factorization.
+//! symbols differ. A *block* is a part at least twice as long as its unit in edition 1, and at
+//! least three times as long in edition 2; a function that tests for blocks or nodes is told the
+//! [`Edition`]. A *run* is a block of edition 1 that cannot be lengthened; runs and their numbers
+//! are the same in both editions. A *split* of a word is a series of blocks that join up to it,
+//! given by the positions of their ends. The field calls a block a repetition, its unit its
+//! smallest period, and a split a repetition factorization.
 //!
 //! ```
 //! # #[cfg(feature = "alloc")] {
-//! use cegridom::{best_split, part, Choice, Refusal};
+//! use cegridom::{best_split, part, Choice, Edition, Refusal};
 //!
 //! let word = b"aabaabaa";
-//! assert_eq!(best_split(word, Choice::Fewest), Ok(vec![8]));
-//! assert_eq!(best_split(word, Choice::Most), Ok(vec![2, 8]));
-//! assert_eq!(part(word, 3, 8).unwrap().unit, 3);
-//! assert_eq!(best_split(b"baa", Choice::Fewest), Err(Refusal::NoSplit));
+//! assert_eq!(best_split(word, Edition::One, Choice::Fewest), Ok(vec![8]));
+//! assert_eq!(best_split(word, Edition::One, Choice::Most), Ok(vec![2, 8]));
+//! assert_eq!(best_split(word, Edition::Two, Choice::Fewest), Err(Refusal::NoSplit));
+//! assert_eq!(best_split(b"aaaaaa", Edition::Two, Choice::Most), Ok(vec![3, 6]));
+//! assert_eq!(part(word, Edition::One, 3, 8).unwrap().unit, 3);
 //! # }
 //! ```
 //!
@@ -61,7 +64,7 @@ mod refusal;
 
 pub use lent::{
     best_split_into, judge_path, judge_split, nodes_into, part, path_of_split_into, read_plan_into,
-    runs_into, version, write_plan_into, Choice, Part, Run, Step,
+    runs_into, version, write_plan_into, Choice, Edition, Part, Run, Step,
 };
 #[cfg(feature = "alloc")]
 pub use owned::{best_sizes, best_split, nodes, path_of_split, read_plan, runs, write_plan, Plan};
@@ -82,7 +85,7 @@ pub const fn work_places(n: usize) -> usize {
     n.saturating_add(1).saturating_mul(4)
 }
 
-/// The most ends that a split of a word of `n` symbols has.
+/// The most ends that a split of a word of `n` symbols has in edition 1; in edition 2 they suffice.
 ///
 /// ```
 /// assert_eq!(cegridom::most_ends(5), 2);

@@ -2,7 +2,7 @@
 
 use crate::{
     best_split_into, most_ends, nodes_into, path_of_split_into, plan_bytes, read_plan_into,
-    runs_into, work_places, write_plan_into, Choice, Refusal, Run, LIMIT, NONE,
+    runs_into, work_places, write_plan_into, Choice, Edition, Refusal, Run, LIMIT, NONE,
 };
 use alloc::vec;
 use alloc::vec::Vec;
@@ -48,20 +48,21 @@ pub fn runs(word: &[u8]) -> Result<Vec<Run>, Refusal> {
     Ok(front(table, count))
 }
 
-/// The numbers of the runs that have a white node at a position, rising: those that are two whole
-/// turns long or longer up to it.
+/// The numbers of the runs that have a white node at a position, rising: those that reach it and
+/// have two whole turns (in edition 2, three) up to it.
 ///
 /// Refusals: 1, 6. Allocates a number for each symbol while it works; 65 KiB of stack.
 ///
 /// ```
-/// use cegridom::{nodes, Refusal};
+/// use cegridom::{nodes, Edition, Refusal};
 ///
-/// assert_eq!(nodes(b"aabaabaa", 8), Ok(vec![2, 4]));
-/// assert_eq!(nodes(b"aabaabaa", 0), Err(Refusal::BadPosition));
+/// assert_eq!(nodes(b"aabaabaa", Edition::One, 8), Ok(vec![2, 4]));
+/// assert_eq!(nodes(b"aabaabaab", Edition::Two, 9), Ok(vec![2]));
+/// assert_eq!(nodes(b"aabaabaa", Edition::One, 0), Err(Refusal::BadPosition));
 /// ```
-pub fn nodes(word: &[u8], position: u32) -> Result<Vec<u32>, Refusal> {
+pub fn nodes(word: &[u8], edition: Edition, position: u32) -> Result<Vec<u32>, Refusal> {
     let mut table = vec![0; allowed(word.len())];
-    let count = nodes_into(word, position, &mut table)?;
+    let count = nodes_into(word, edition, position, &mut table)?;
     Ok(front(table, count))
 }
 
@@ -72,18 +73,22 @@ pub fn nodes(word: &[u8], position: u32) -> Result<Vec<u32>, Refusal> {
 /// stack a block of the split, 97 KiB at most.
 ///
 /// ```
-/// use cegridom::{best_split, Choice, Refusal};
+/// use cegridom::{best_split, Choice, Edition, Refusal};
 ///
 /// let word = b"abaabaababaabaabababa";
-/// assert_eq!(best_split(word, Choice::Fewest), Ok(vec![16, 21]));
-/// assert_eq!(best_split(word, Choice::Most), Ok(vec![6, 10, 16, 21]));
-/// assert_eq!(best_split(b"ab", Choice::Most), Err(Refusal::NoSplit));
+/// assert_eq!(best_split(word, Edition::One, Choice::Fewest), Ok(vec![16, 21]));
+/// assert_eq!(best_split(word, Edition::One, Choice::Most), Ok(vec![6, 10, 16, 21]));
+/// assert_eq!(best_split(b"ab", Edition::One, Choice::Most), Err(Refusal::NoSplit));
+///
+/// assert_eq!(best_split(b"aaaaaa", Edition::Two, Choice::Fewest), Ok(vec![6]));
+/// assert_eq!(best_split(b"aaaaaa", Edition::Two, Choice::Most), Ok(vec![3, 6]));
+/// assert_eq!(best_split(word, Edition::Two, Choice::Fewest), Err(Refusal::NoSplit));
 /// ```
-pub fn best_split(word: &[u8], choice: Choice) -> Result<Vec<u32>, Refusal> {
+pub fn best_split(word: &[u8], edition: Edition, choice: Choice) -> Result<Vec<u32>, Refusal> {
     let n = allowed(word.len());
     let mut ends = vec![0; most_ends(n)];
     let mut work = vec![0; work_places(n)];
-    let size = best_split_into(word, choice, &mut ends, &mut work)?;
+    let size = best_split_into(word, edition, choice, &mut ends, &mut work)?;
     Ok(front(ends, size))
 }
 
@@ -93,18 +98,22 @@ pub fn best_split(word: &[u8], choice: Choice) -> Result<Vec<u32>, Refusal> {
 /// Refusal: 1. Allocates [`work_places`] numbers while it works, and its answer.
 ///
 /// ```
-/// use cegridom::{best_sizes, Choice};
+/// use cegridom::{best_sizes, Choice, Edition};
 ///
 /// assert_eq!(
-///     best_sizes(b"aabb", Choice::Fewest),
+///     best_sizes(b"aabb", Edition::One, Choice::Fewest),
 ///     Ok(vec![Some(0), None, Some(1), None, Some(2)])
 /// );
 /// ```
-pub fn best_sizes(word: &[u8], choice: Choice) -> Result<Vec<Option<u32>>, Refusal> {
+pub fn best_sizes(
+    word: &[u8],
+    edition: Edition,
+    choice: Choice,
+) -> Result<Vec<Option<u32>>, Refusal> {
     let n = allowed(word.len());
     let mut work = vec![0; work_places(n)];
     // No places for ends are lent: 7 and 2 leave the working table as an answer does.
-    match best_split_into(word, choice, &mut [], &mut work) {
+    match best_split_into(word, edition, choice, &mut [], &mut work) {
         Ok(_) | Err(Refusal::TooFewPlaces | Refusal::NoSplit) => {
             let known = |&size: &u32| (size != NONE).then_some(size);
             Ok(work.iter().take(n + 1).map(known).collect())
@@ -119,19 +128,19 @@ pub fn best_sizes(word: &[u8], choice: Choice) -> Result<Vec<Option<u32>>, Refus
 /// Refusals: 1; then for each end in turn 3, 4; then 5. Allocates its answer; 81 KiB of stack.
 ///
 /// ```
-/// use cegridom::{judge_path, path_of_split, Step};
+/// use cegridom::{judge_path, path_of_split, Edition, Step};
 ///
 /// let (word, ends) = (b"aabaabaa", [2, 8]);
-/// let runs = path_of_split(word, &ends).unwrap();
+/// let runs = path_of_split(word, Edition::One, &ends).unwrap();
 /// assert_eq!(runs, [1, 2]);
 ///
 /// let path: Vec<Step> = runs.into_iter().zip(ends).map(|(run, end)| Step { run, end }).collect();
-/// assert_eq!(judge_path(word, &path), Ok(2));
+/// assert_eq!(judge_path(word, Edition::One, &path), Ok(2));
 /// ```
-pub fn path_of_split(word: &[u8], ends: &[u32]) -> Result<Vec<u32>, Refusal> {
+pub fn path_of_split(word: &[u8], edition: Edition, ends: &[u32]) -> Result<Vec<u32>, Refusal> {
     // More ends than a split has are refused whatever is lent.
     let mut table = vec![0; ends.len().min(most_ends(allowed(word.len())))];
-    let count = path_of_split_into(word, ends, &mut table)?;
+    let count = path_of_split_into(word, edition, ends, &mut table)?;
     Ok(front(table, count))
 }
 

@@ -5,7 +5,8 @@
 //! the library. A slice passes as a pointer and its count of elements. The result is 0 for
 //! accepted, else the refusal's number; `*index` is that of refusals 3 and 4, else 0; the other
 //! values are 0 after a refusal. [`Refusal::check`](crate::Refusal::check) turns result and index
-//! into an error. The refusals, the cost and the stack of a call are those of its wrapper.
+//! into an error. An edition is 1 or 2, else the refusal is 12. The cost and the stack of a call
+//! are those of its wrapper.
 //!
 //! # Safety
 //!
@@ -47,10 +48,12 @@ extern "C" {
     /// the minor one.
     pub fn cegridom_version() -> u32;
 
-    /// Behind [`part`](crate::part). `*block` is 1 for a block, else 0. Refusals: 1, 6.
+    /// Behind [`part`](crate::part). `*block` is 1 for a block, else 0.
+    /// Refusals: 1, 12, 6.
     pub fn cegridom_part(
         word: *const u8,
         n: usize,
+        edition: u32,
         first: u32,
         last: u32,
         unit: *mut u32,
@@ -71,10 +74,11 @@ extern "C" {
         index: *mut u32,
     ) -> u32;
 
-    /// Behind [`nodes_into`](crate::nodes_into). Refusals: 1, 6, 7.
+    /// Behind [`nodes_into`](crate::nodes_into). Refusals: 1, 12, 6, 7.
     pub fn cegridom_nodes(
         word: *const u8,
         n: usize,
+        edition: u32,
         position: u32,
         table: *mut u32,
         places: usize,
@@ -83,10 +87,12 @@ extern "C" {
     ) -> u32;
 
     /// Behind [`best_split_into`](crate::best_split_into). The choice is 1 for the fewest blocks, 2
-    /// for the most. Refusals: 1, 8, 9, 2, 7.
+    /// for the most. Refusals: 1, 12, 8, 9, 2, 7. After 12 and 8 the working table keeps its
+    /// contents, as after 1 and 9.
     pub fn cegridom_best_split(
         word: *const u8,
         n: usize,
+        edition: u32,
         choice: u32,
         ends: *mut u32,
         end_places: usize,
@@ -96,21 +102,23 @@ extern "C" {
         index: *mut u32,
     ) -> u32;
 
-    /// Behind [`judge_split`](crate::judge_split). Refusals: 1; for each end in turn 3, 4; 5.
+    /// Behind [`judge_split`](crate::judge_split). Refusals: 1; 12; for each end in turn 3, 4; 5.
     pub fn cegridom_judge_split(
         word: *const u8,
         n: usize,
+        edition: u32,
         ends: *const u32,
         end_count: usize,
         blocks: *mut u32,
         index: *mut u32,
     ) -> u32;
 
-    /// Behind [`path_of_split_into`](crate::path_of_split_into). Refusals: 1; for each end in turn
-    /// 3, 4; 5; 7.
+    /// Behind [`path_of_split_into`](crate::path_of_split_into). Refusals: 1; 12; for each end in
+    /// turn 3, 4; 5; 7.
     pub fn cegridom_path_of_split(
         word: *const u8,
         n: usize,
+        edition: u32,
         ends: *const u32,
         end_count: usize,
         table: *mut u32,
@@ -120,10 +128,11 @@ extern "C" {
     ) -> u32;
 
     /// Behind [`judge_path`](crate::judge_path). A block takes [`STEP_PLACES`] of the numbers.
-    /// Refusals: 1; 10; for each end in turn 3, 4; 5.
+    /// Refusals: 1; 12; 10; for each end in turn 3, 4; 5.
     pub fn cegridom_judge_path(
         word: *const u8,
         n: usize,
+        edition: u32,
         numbers: *const u32,
         number_count: usize,
         blocks: *mut u32,

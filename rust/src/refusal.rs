@@ -7,9 +7,9 @@ use core::fmt;
 /// Why a call refused. Each refusal has the number that the library returns for it.
 ///
 /// ```
-/// use cegridom::{judge_split, Refusal};
+/// use cegridom::{judge_split, Edition, Refusal};
 ///
-/// let refusal = judge_split(b"aabaabaa", &[3, 8]).unwrap_err();
+/// let refusal = judge_split(b"aabaabaa", Edition::One, &[3, 8]).unwrap_err();
 /// assert_eq!(refusal, Refusal::NotBlock { index: 1 });
 /// assert_eq!((refusal.number(), refusal.index()), (4, Some(1)));
 /// ```
@@ -26,7 +26,8 @@ pub enum Refusal {
         index: u32,
     },
     /// 4: the piece up to this end is not a block; for a path, no run has the number given, or the
-    /// run does not enclose the piece, or the piece is shorter than twice the run's unit.
+    /// run does not enclose the piece, or the piece is shorter than twice (in edition 2, three
+    /// times) the run's unit.
     NotBlock {
         /// Which end, from 1.
         index: u32,
@@ -46,11 +47,13 @@ pub enum Refusal {
     OddPath,
     /// 11: bytes that are not one plan line, or whose count of ends differs from the one stated.
     NotPlan,
+    /// 12: an edition other than 1 or 2. Only the functions in [`raw`](crate::raw) take such a one.
+    BadEdition,
     /// A number that this version of the crate does not know, from a newer archive. Only
     /// [`Refusal::check`] makes it.
     #[non_exhaustive]
     Unknown {
-        /// The number, above 11.
+        /// The number, above 12.
         number: u32,
         /// The index that came with it; 0 where there is none.
         index: u32,
@@ -82,6 +85,7 @@ impl Refusal {
             9 => Refusal::ShortTable,
             10 => Refusal::OddPath,
             11 => Refusal::NotPlan,
+            12 => Refusal::BadEdition,
             number => Refusal::Unknown { number, index },
         })
     }
@@ -100,6 +104,7 @@ impl Refusal {
             Refusal::ShortTable => 9,
             Refusal::OddPath => 10,
             Refusal::NotPlan => 11,
+            Refusal::BadEdition => 12,
             Refusal::Unknown { number, .. } => number,
         }
     }
@@ -134,6 +139,7 @@ impl fmt::Display for Refusal {
             Refusal::ShortTable => write!(f, "the working table is too short"),
             Refusal::OddPath => write!(f, "a path with an odd count of numbers"),
             Refusal::NotPlan => write!(f, "the bytes are not one plan line"),
+            Refusal::BadEdition => write!(f, "an edition other than 1 or 2"),
             Refusal::Unknown { number, index } => {
                 write!(f, "refusal {number} with index {index}, which is not known")
             }

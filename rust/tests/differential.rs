@@ -6,9 +6,9 @@
 mod reference;
 mod words;
 
-use cegridom::{raw, Choice, Refusal, Step};
+use cegridom::{raw, Choice, Edition, Refusal, Step};
 use reference::Outcome::{self, Accepted, Refused};
-use reference::{Run, LIMIT};
+use reference::{Best, Run, EDITIONS, LIMIT};
 use words::{every_word, fibonacci, last_differs, thue_morse};
 
 /// What stands in a value before a call, and beside a table.
@@ -17,6 +17,8 @@ const GUARD: u32 = 0xdead_beef;
 const LONG: usize = 1000;
 /// How many places beside a table are watched.
 const MARGIN: usize = 3;
+/// Numbers that are no edition.
+const NO_EDITIONS: [u32; 3] = [0, 3, u32::MAX];
 /// More places than any answer needs.
 const MANY: usize = 5 * LIMIT + 20;
 
@@ -70,14 +72,15 @@ fn compare(result: u32, index: u32, values: &[u32], expected: &Outcome, what: &s
 struct Checker {
     made: u64,
     /// How often each refusal was met; place 0 is for accepted.
-    met: [u64; 12],
+    met: [u64; 13],
 }
 
 /// A word and what is known of it.
 struct Known<'a> {
     word: &'a [u8],
     runs: Vec<Run>,
-    best: [(Vec<u32>, Option<Vec<u32>>); 2],
+    /// By edition and choice.
+    bests: [[Best; 2]; 2],
 }
 
 impl<'a> Known<'a> {
@@ -86,14 +89,25 @@ impl<'a> Known<'a> {
             return Known {
                 word,
                 runs: vec![],
-                best: Default::default(),
+                bests: Default::default(),
             };
         }
         Known {
             word,
             runs: reference::runs(word),
-            best: [reference::best(word, 1), reference::best(word, 2)],
+            bests: reference::bests(word),
         }
+    }
+
+    /// Any, where the edition or the choice is none: the call then refuses without it.
+    fn best(&self, edition: u32, choice: u32) -> &Best {
+        &self.bests[(edition == 2) as usize][(choice == 2) as usize]
+    }
+
+    /// The path of a split: run number and end of each block.
+    fn path(&self, edition: u32, ends: &[u32]) -> Vec<u32> {
+        let (_, runs) = reference::path_call(self.word, edition, &self.runs, ends, ends.len());
+        encoded(&runs, ends)
     }
 }
 
@@ -106,7 +120,7 @@ impl Checker {
         }] += 1;
     }
 
-    fn part(&mut self, w: &[u8], first: u32, last: u32) {
+    fn part(&mut self, w: &[u8], edition: u32, first: u32, last: u32) {
         let mut values = [GUARD; 4];
         let mut index = GUARD;
         let [unit, turns, rest, block] = &mut values;
@@ -114,6 +128,7 @@ impl Checker {
             raw::cegridom_part(
                 w.as_ptr(),
                 w.len(),
+                edition,
                 first,
                 last,
                 unit,
@@ -123,7 +138,7 @@ impl Checker {
                 &mut index,
             )
         };
-        let expected = reference::part_call(w, first, last);
+        let expected = reference::part_call(w, edition, first, last);
         compare(result, index, &values, &expected, "part");
         self.count(&expected);
     }
@@ -149,7 +164,7 @@ impl Checker {
         self.count(&expected);
     }
 
-    fn nodes(&mut self, known: &Known, position: u32, places: usize) {
+    fn nodes(&mut self, known: &Known, edition: u32, position: u32, places: usize) {
         let w = known.word;
         let mut lent = Lent::new(places);
         let (mut count, mut index) = (GUARD, GUARD);
@@ -158,6 +173,7 @@ impl Checker {
             raw::cegridom_nodes(
                 w.as_ptr(),
                 w.len(),
+                edition,
                 position,
                 table.as_mut_ptr(),
                 table.len(),
@@ -165,13 +181,20 @@ impl Checker {
                 &mut index,
             )
         };
-        let (expected, front) = reference::nodes_call(w, &known.runs, position, places);
+        let (expected, front) = reference::nodes_call(w, edition, &known.runs, position, places);
         compare(result, index, &[count], &expected, "nodes");
         lent.changed_to(&front, "nodes");
         self.count(&expected);
     }
 
-    fn best_split(&mut self, known: &Known, choice: u32, places: usize, work_places: usize) {
+    fn best_split(
+        &mut self,
+        known: &Known,
+        edition: u32,
+        choice: u32,
+        places: usize,
+        work_places: usize,
+    ) {
         let w = known.word;
         let mut ends = Lent::new(places);
         let mut work = Lent::new(work_places);
@@ -181,6 +204,7 @@ impl Checker {
             raw::cegridom_best_split(
                 w.as_ptr(),
                 w.len(),
+                edition,
                 choice,
                 e.as_mut_ptr(),
                 e.len(),
@@ -190,33 +214,34 @@ impl Checker {
                 &mut index,
             )
         };
-        let best = &known.best[(choice == 2) as usize];
+        let best = known.best(edition, choice);
         let (expected, front, work_front) =
-            reference::best_call(w, choice, best, places, work_places);
+            reference::best_call(w, edition, choice, best, places, work_places);
         compare(result, index, &[size], &expected, "best split");
         ends.changed_to(&front, "the ends of best split");
         work.changed_to(&work_front, "the working table of best split");
         self.count(&expected);
     }
 
-    fn judge_split(&mut self, w: &[u8], ends: &[u32]) {
+    fn judge_split(&mut self, w: &[u8], edition: u32, ends: &[u32]) {
         let (mut blocks, mut index) = (GUARD, GUARD);
         let result = unsafe {
             raw::cegridom_judge_split(
                 w.as_ptr(),
                 w.len(),
+                edition,
                 ends.as_ptr(),
                 ends.len(),
                 &mut blocks,
                 &mut index,
             )
         };
-        let expected = reference::judge_split_call(w, ends);
+        let expected = reference::judge_split_call(w, edition, ends);
         compare(result, index, &[blocks], &expected, "judge a split");
         self.count(&expected);
     }
 
-    fn path_of_split(&mut self, known: &Known, ends: &[u32], places: usize) {
+    fn path_of_split(&mut self, known: &Known, edition: u32, ends: &[u32], places: usize) {
         let w = known.word;
         let mut lent = Lent::new(places);
         let (mut blocks, mut index) = (GUARD, GUARD);
@@ -225,6 +250,7 @@ impl Checker {
             raw::cegridom_path_of_split(
                 w.as_ptr(),
                 w.len(),
+                edition,
                 ends.as_ptr(),
                 ends.len(),
                 table.as_mut_ptr(),
@@ -233,26 +259,27 @@ impl Checker {
                 &mut index,
             )
         };
-        let (expected, front) = reference::path_call(w, &known.runs, ends, places);
+        let (expected, front) = reference::path_call(w, edition, &known.runs, ends, places);
         compare(result, index, &[blocks], &expected, "path of a split");
         lent.changed_to(&front, "path of a split");
         self.count(&expected);
     }
 
-    fn judge_path(&mut self, known: &Known, numbers: &[u32]) {
+    fn judge_path(&mut self, known: &Known, edition: u32, numbers: &[u32]) {
         let w = known.word;
         let (mut blocks, mut index) = (GUARD, GUARD);
         let result = unsafe {
             raw::cegridom_judge_path(
                 w.as_ptr(),
                 w.len(),
+                edition,
                 numbers.as_ptr(),
                 numbers.len(),
                 &mut blocks,
                 &mut index,
             )
         };
-        let expected = reference::judge_path_call(w, &known.runs, numbers);
+        let expected = reference::judge_path_call(w, edition, &known.runs, numbers);
         compare(result, index, &[blocks], &expected, "judge a path");
         self.count(&expected);
     }
@@ -308,30 +335,30 @@ impl Checker {
         }
     }
 
-    fn nodes_sizes(&mut self, known: &Known, position: u32) {
-        for places in around(
-            reference::white(&known.runs, position as usize).len(),
-            known.word.len(),
-        ) {
-            self.nodes(known, position, places);
+    fn nodes_sizes(&mut self, known: &Known, edition: u32, position: u32) {
+        let turns = reference::turns(edition).unwrap();
+        let exact = reference::white(&known.runs, turns, position as usize).len();
+        for places in around_in(edition, exact, known.word.len()) {
+            self.nodes(known, edition, position, places);
         }
     }
 
-    fn best_sizes(&mut self, known: &Known, choice: u32) {
-        let best = &known.best[(choice == 2) as usize];
-        let size = best.1.as_ref().map_or(0, Vec::len);
-        let work = 4 * (known.word.len() + 1);
-        for places in around(size, known.word.len()) {
-            self.best_split(known, choice, places, work);
+    fn best_sizes(&mut self, known: &Known, edition: u32, choice: u32) {
+        let n = known.word.len();
+        let size = known.best(edition, choice).1.as_ref().map_or(0, Vec::len);
+        let work = 4 * (n + 1);
+        for places in around_in(edition, size, n) {
+            self.best_split(known, edition, choice, places, work);
         }
-        for work_places in around(work, known.word.len()) {
-            self.best_split(known, choice, size, work_places);
+        let others = around_in(edition, work, n).into_iter();
+        for work_places in others.filter(|&places| places != work) {
+            self.best_split(known, edition, choice, size, work_places);
         }
     }
 
-    fn path_sizes(&mut self, known: &Known, ends: &[u32]) {
-        for places in around(ends.len(), known.word.len()) {
-            self.path_of_split(known, ends, places);
+    fn path_sizes(&mut self, known: &Known, edition: u32, ends: &[u32]) {
+        for places in around_in(edition, ends.len(), known.word.len()) {
+            self.path_of_split(known, edition, ends, places);
         }
     }
 
@@ -346,21 +373,21 @@ impl Checker {
     }
 
     /// A path and its numbers changed one at a time.
-    fn path_and_near(&mut self, known: &Known, numbers: &[u32]) {
-        self.judge_path(known, numbers);
+    fn path_and_near(&mut self, known: &Known, edition: u32, numbers: &[u32]) {
+        self.judge_path(known, edition, numbers);
         let mut near = numbers.to_vec();
         for i in 0..numbers.len() {
             for change in [near[i].wrapping_sub(1), near[i] + 1, 0, u32::MAX] {
                 near[i] = change;
-                self.judge_path(known, &near);
+                self.judge_path(known, edition, &near);
                 near[i] = numbers[i];
             }
-            self.judge_path(known, &numbers[..i]);
+            self.judge_path(known, edition, &numbers[..i]);
         }
         near.push(1);
-        self.judge_path(known, &near);
+        self.judge_path(known, edition, &near);
         near.push(1);
-        self.judge_path(known, &near);
+        self.judge_path(known, edition, &near);
     }
 
     fn report(self, name: &str) {
@@ -377,6 +404,15 @@ fn around(exact: usize, n: usize) -> Vec<usize> {
     sizes.sort();
     sizes.dedup();
     sizes
+}
+
+/// The same in an edition. Of a long word edition 2 gets the exact size alone, for the time's sake:
+/// shorter words show what the others do.
+fn around_in(edition: u32, exact: usize, n: usize) -> Vec<usize> {
+    if edition == 2 && n >= LONG {
+        return vec![exact];
+    }
+    around(exact, n)
 }
 
 /// Run number and end of each block.
@@ -413,6 +449,19 @@ impl Numbers {
     fn word(&mut self, n: usize, symbols: usize) -> Vec<u8> {
         (0..n).map(|_| self.below(symbols) as u8).collect()
     }
+
+    /// At least n symbols: joined parts of so many turns and up to three more, of units up to a
+    /// length.
+    fn joined(&mut self, n: usize, turns: usize, longest: usize) -> Vec<u8> {
+        let mut word = Vec::new();
+        while word.len() < n {
+            let span = 1 + self.below(longest);
+            let unit = self.word(span, 3);
+            let length = turns * span + self.below(3 * span);
+            word.extend(unit.iter().cycle().take(length));
+        }
+        word
+    }
 }
 
 /// Words of a length that have structure: equal symbols, a last symbol that differs, Fibonacci,
@@ -420,13 +469,7 @@ impl Numbers {
 fn structured(n: usize) -> Vec<Vec<u8>> {
     let mut numbers = Numbers(0x9e37_79b9_7f4a_7c15 ^ n as u64);
     let unit_of_64 = numbers.word(64, 4);
-    let mut joined = Vec::new();
-    while joined.len() < n {
-        let span = 1 + numbers.below(40);
-        let unit = numbers.word(span, 3);
-        let length = 2 * unit.len() + numbers.below(3 * unit.len());
-        joined.extend(unit.iter().cycle().take(length));
-    }
+    let mut joined = numbers.joined(n, 2, 40);
     joined.truncate(n);
     vec![
         vec![b'a'; n],
@@ -458,21 +501,25 @@ fn reference_follows_the_definitions() {
         let runs = reference::runs(w);
         assert_eq!(runs, reference::plain_runs(w));
         assert!(n == 0 || runs.len() < n);
-        for choice in [1, 2] {
-            assert_eq!(reference::best(w, choice), reference::plain_best(w, choice));
-            made += 1;
-        }
-        // The splits and the paths of each leading length go together one to one.
-        for t in 0..=n {
-            let mut ends: Vec<Vec<u32>> = reference::plain_paths(&runs, n, t)
-                .iter()
-                .map(|path| path.iter().skip(1).step_by(2).copied().collect())
-                .collect();
-            ends.sort();
-            let mut splits = reference::plain_splits(&w[..t]);
-            splits.sort();
-            assert_eq!(ends, splits);
-            made += 1;
+        let bests = reference::bests(w);
+        for (edition, bests) in EDITIONS.into_iter().zip(bests) {
+            let turns = reference::turns(edition).unwrap();
+            for (choice, best) in [1, 2].into_iter().zip(bests) {
+                assert_eq!(best, reference::plain_best(w, turns, choice));
+                made += 1;
+            }
+            // The splits and the paths of each leading length go together one to one.
+            for t in 0..=n {
+                let mut ends: Vec<Vec<u32>> = reference::plain_paths(&runs, turns, n, t)
+                    .iter()
+                    .map(|path| path.iter().skip(1).step_by(2).copied().collect())
+                    .collect();
+                ends.sort();
+                let mut splits = reference::plain_splits(&w[..t], turns);
+                splits.sort();
+                assert_eq!(ends, splits);
+                made += 1;
+            }
         }
     });
     println!("the reference against the definitions: {made} comparisons");
@@ -486,16 +533,27 @@ fn short_words_part_runs_nodes() {
     every_short_word(|w| {
         let known = Known::of(w);
         let n = w.len() as u32;
-        for first in 0..=n + 1 {
-            for last in 0..=n + 1 {
-                checker.part(w, first, last);
+        checker.runs_sizes(&known);
+        for edition in EDITIONS {
+            for first in 0..=n + 1 {
+                for last in 0..=n + 1 {
+                    checker.part(w, edition, first, last);
+                }
+            }
+            checker.part(w, edition, 1, u32::MAX);
+            checker.part(w, edition, u32::MAX, 1);
+            for position in (0..=n + 1).chain([u32::MAX]) {
+                checker.nodes_sizes(&known, edition, position);
             }
         }
-        checker.part(w, 1, u32::MAX);
-        checker.part(w, u32::MAX, 1);
-        checker.runs_sizes(&known);
-        for position in (0..=n + 1).chain([u32::MAX]) {
-            checker.nodes_sizes(&known, position);
+        for edition in NO_EDITIONS {
+            for (first, last) in [(1, n), (0, n), (n, 1)] {
+                checker.part(w, edition, first, last);
+            }
+            for position in [0, 1, n, n + 1] {
+                checker.nodes(&known, edition, position, 0);
+                checker.nodes(&known, edition, position, w.len());
+            }
         }
     });
     checker.report("part, runs and nodes of short words");
@@ -506,13 +564,21 @@ fn short_words_best_split() {
     let mut checker = Checker::default();
     every_short_word(|w| {
         let known = Known::of(w);
-        for choice in [1, 2] {
-            checker.best_sizes(&known, choice);
-        }
         let work = 4 * (w.len() + 1);
-        for choice in [0, 3, u32::MAX] {
-            checker.best_split(&known, choice, w.len(), work);
-            checker.best_split(&known, choice, w.len(), work - 1);
+        for edition in EDITIONS {
+            for choice in [1, 2] {
+                checker.best_sizes(&known, edition, choice);
+            }
+            for choice in [0, 3, u32::MAX] {
+                checker.best_split(&known, edition, choice, w.len(), work);
+                checker.best_split(&known, edition, choice, w.len(), work - 1);
+            }
+        }
+        for edition in NO_EDITIONS {
+            for choice in [0, 1, 2, 3] {
+                checker.best_split(&known, edition, choice, w.len(), work);
+                checker.best_split(&known, edition, choice, w.len(), work - 1);
+            }
         }
     });
     checker.report("best split of short words");
@@ -524,26 +590,37 @@ fn short_words_judged_splits() {
     every_short_word(|w| {
         let known = Known::of(w);
         let n = w.len() as u32;
-        // Every rising series of ends up to n + 1, for the shorter words.
-        if n <= 8 {
-            for set in 0u32..1 << (n + 1) {
-                let ends: Vec<u32> = (1..=n + 1).filter(|e| set >> (e - 1) & 1 == 1).collect();
-                checker.judge_split(w, &ends);
-                checker.path_of_split(&known, &ends, ends.len());
+        for edition in EDITIONS {
+            // Every rising series of ends up to n + 1, for the shorter words.
+            if n <= 8 {
+                for set in 0u32..1 << (n + 1) {
+                    let ends: Vec<u32> = (1..=n + 1).filter(|e| set >> (e - 1) & 1 == 1).collect();
+                    checker.judge_split(w, edition, &ends);
+                    checker.path_of_split(&known, edition, &ends, ends.len());
+                }
+            }
+            for ends in reference::plain_splits(w, reference::turns(edition).unwrap()) {
+                // The other edition may refuse it.
+                checker.judge_split(w, 3 - edition, &ends);
+                checker.judge_split(w, edition, &ends);
+                checker.path_sizes(&known, edition, &ends);
+                let mut near = ends.clone();
+                for i in 0..ends.len() {
+                    for change in [0, near[i] - 1, near[i] + 1, u32::MAX] {
+                        near[i] = change;
+                        checker.judge_split(w, edition, &near);
+                        checker.path_of_split(&known, edition, &near, near.len());
+                        near[i] = ends[i];
+                    }
+                    checker.judge_split(w, edition, &ends[..i]);
+                }
             }
         }
-        for ends in reference::plain_splits(w) {
-            checker.judge_split(w, &ends);
-            checker.path_sizes(&known, &ends);
-            let mut near = ends.clone();
-            for i in 0..ends.len() {
-                for change in [0, near[i] - 1, near[i] + 1, u32::MAX] {
-                    near[i] = change;
-                    checker.judge_split(w, &near);
-                    checker.path_of_split(&known, &near, near.len());
-                    near[i] = ends[i];
-                }
-                checker.judge_split(w, &ends[..i]);
+        for edition in NO_EDITIONS {
+            for ends in [&[][..], &[n], &[1, n], &[0], &[n + 1]] {
+                checker.judge_split(w, edition, ends);
+                checker.path_of_split(&known, edition, ends, 0);
+                checker.path_of_split(&known, edition, ends, ends.len());
             }
         }
     });
@@ -555,24 +632,36 @@ fn short_words_judged_paths() {
     let mut checker = Checker::default();
     every_short_word(|w| {
         let known = Known::of(w);
-        for path in reference::plain_paths(&known.runs, w.len(), w.len()) {
-            assert!(matches!(
-                reference::judge_path_call(w, &known.runs, &path),
-                Accepted(_)
-            ));
-            checker.path_and_near(&known, &path);
-        }
-        // Every series of up to two blocks, for the shorter words.
-        if w.len() <= 5 {
-            let pairs: Vec<[u32; 2]> = (0..=known.runs.len() as u32 + 1)
-                .flat_map(|r| (0..=w.len() as u32 + 1).map(move |e| [r, e]))
-                .collect();
-            checker.judge_path(&known, &[]);
-            for a in &pairs {
-                checker.judge_path(&known, a);
-                for b in &pairs {
-                    checker.judge_path(&known, &[a[0], a[1], b[0], b[1]]);
+        let n = w.len();
+        for edition in EDITIONS {
+            let turns = reference::turns(edition).unwrap();
+            for path in reference::plain_paths(&known.runs, turns, n, n) {
+                assert!(matches!(
+                    reference::judge_path_call(w, edition, &known.runs, &path),
+                    Accepted(_)
+                ));
+                checker.path_and_near(&known, edition, &path);
+                // The other edition may refuse it.
+                checker.judge_path(&known, 3 - edition, &path);
+            }
+            // Every series of up to two blocks, for the shorter words.
+            if n <= 5 {
+                let pairs: Vec<[u32; 2]> = (0..=known.runs.len() as u32 + 1)
+                    .flat_map(|r| (0..=n as u32 + 1).map(move |e| [r, e]))
+                    .collect();
+                checker.judge_path(&known, edition, &[]);
+                for a in &pairs {
+                    checker.judge_path(&known, edition, a);
+                    for b in &pairs {
+                        checker.judge_path(&known, edition, &[a[0], a[1], b[0], b[1]]);
+                    }
                 }
+            }
+        }
+        let end = n as u32;
+        for edition in NO_EDITIONS {
+            for path in [&[][..], &[1], &[1, end], &[1, 0], &[0, end], &[1, end, 1]] {
+                checker.judge_path(&known, edition, path);
             }
         }
     });
@@ -583,14 +672,12 @@ fn short_words_judged_paths() {
 fn long_words() {
     let mut checker = Checker::default();
     let mut numbers = Numbers(88_172_645_463_325_252);
-    let mut lengths: Vec<usize> = (11..140).step_by(7).collect();
-    lengths.extend([255, 256, 511, 1000, 2048, 4096]);
-    for n in lengths {
+    for n in (11..140).step_by(7).chain([255, 256, 511, 1000, 2048]) {
         for w in structured(n) {
             long_word(&mut checker, &mut numbers, &w);
         }
     }
-    // Random words of any length, and blocks with one symbol changed.
+    // Random words of any length, blocks with one symbol changed, and words that edition 2 splits.
     for _ in 0..400 {
         let n = 1 + numbers.below(90);
         let symbols = [2, 3, 4, 256][numbers.below(4)];
@@ -601,8 +688,23 @@ fn long_words() {
         long_word(&mut checker, &mut numbers, &w);
         w[numbers.below(n)] ^= 1;
         long_word(&mut checker, &mut numbers, &w);
+        let w = numbers.joined(n, 3, 6);
+        long_word(&mut checker, &mut numbers, &w);
     }
+    let w = numbers.joined(LONG, 3, 40);
+    long_word(&mut checker, &mut numbers, &w);
     checker.report("long words");
+}
+
+/// A test of its own, to run beside the others: it takes as long as they do.
+#[test]
+fn longest_words() {
+    let mut checker = Checker::default();
+    let mut numbers = Numbers(88_172_645_463_325_252);
+    for w in structured(LIMIT) {
+        long_word(&mut checker, &mut numbers, &w);
+    }
+    checker.report("longest words");
 }
 
 fn long_word(checker: &mut Checker, numbers: &mut Numbers, w: &[u8]) {
@@ -611,48 +713,75 @@ fn long_word(checker: &mut Checker, numbers: &mut Numbers, w: &[u8]) {
     for _ in 0..20 {
         let first = 1 + numbers.below(n);
         let last = first + numbers.below(n + 1 - first);
-        checker.part(w, first as u32, last as u32);
-    }
-    checker.part(w, 1, n as u32);
-    checker.part(w, 2, n as u32 + 1);
-    checker.runs_sizes(&known);
-    let positions: &[usize] = if n < LONG {
-        &[0, 1, n / 3, n - 1, n, n + 1]
-    } else {
-        &[n / 3, n]
-    };
-    for &position in positions {
-        checker.nodes_sizes(&known, position as u32);
-    }
-    for choice in [1, 2] {
-        checker.best_sizes(&known, choice);
-        let Some(ends) = &known.best[choice as usize - 1].1 else {
-            continue;
-        };
-        checker.judge_split(w, ends);
-        checker.path_sizes(&known, ends);
-        checker.plan_sizes(n as u32, ends);
-        let (_, runs) = reference::path_call(w, &known.runs, ends, ends.len());
-        let path = encoded(&runs, ends);
-        checker.judge_path(&known, &path);
-        // A few changes, each in one place.
-        for _ in 0..if n < LONG { 8 } else { 2 } {
-            let mut near = ends.clone();
-            let i = numbers.below(ends.len());
-            near[i] = near[i] + numbers.below(5) as u32 - 2.min(near[i]);
-            checker.judge_split(w, &near);
-            checker.path_of_split(&known, &near, near.len());
-            let mut near = path.clone();
-            let i = numbers.below(path.len());
-            near[i] = near[i] + numbers.below(5) as u32 - 2.min(near[i]);
-            checker.judge_path(&known, &near);
+        for edition in EDITIONS {
+            checker.part(w, edition, first as u32, last as u32);
         }
-        checker.judge_path(&known, &path[1..]);
-        checker.judge_split(w, &ends[..ends.len() - 1]);
+    }
+    checker.runs_sizes(&known);
+    for edition in EDITIONS {
+        checker.part(w, edition, 1, n as u32);
+        checker.part(w, edition, 2, n as u32 + 1);
+        let positions: &[usize] = if n < LONG {
+            &[0, 1, n / 3, n - 1, n, n + 1]
+        } else {
+            &[n / 3, n]
+        };
+        for &position in positions {
+            checker.nodes_sizes(&known, edition, position as u32);
+        }
+        for choice in [1, 2] {
+            checker.best_sizes(&known, edition, choice);
+            long_split(checker, numbers, &known, edition, choice);
+        }
     }
     // Ends that rise, most of them ends of no block.
     let ends: Vec<u32> = (1..=n as u32).filter(|_| numbers.below(3) == 0).collect();
-    checker.judge_split(w, &ends);
+    for edition in EDITIONS {
+        checker.judge_split(w, edition, &ends);
+    }
+    for edition in NO_EDITIONS {
+        checker.part(w, edition, 1, n as u32);
+        checker.nodes(&known, edition, n as u32, n);
+        checker.best_split(&known, edition, 1, n, 4 * (n + 1));
+        checker.judge_split(w, edition, &ends);
+        checker.path_of_split(&known, edition, &ends, n);
+        checker.judge_path(&known, edition, &ends);
+    }
+}
+
+/// The best split, its path and what is near them, where there is one.
+fn long_split(
+    checker: &mut Checker,
+    numbers: &mut Numbers,
+    known: &Known,
+    edition: u32,
+    choice: u32,
+) {
+    let (w, n) = (known.word, known.word.len());
+    let Some(ends) = &known.best(edition, choice).1 else {
+        return;
+    };
+    checker.judge_split(w, edition, ends);
+    // The other edition may refuse it.
+    checker.judge_split(w, 3 - edition, ends);
+    checker.path_sizes(known, edition, ends);
+    checker.plan_sizes(n as u32, ends);
+    let path = known.path(edition, ends);
+    checker.judge_path(known, edition, &path);
+    // A few changes, each in one place.
+    for _ in 0..if n < LONG { 8 } else { 2 } {
+        let mut near = ends.clone();
+        let i = numbers.below(ends.len());
+        near[i] = near[i] + numbers.below(5) as u32 - 2.min(near[i]);
+        checker.judge_split(w, edition, &near);
+        checker.path_of_split(known, edition, &near, near.len());
+        let mut near = path.clone();
+        let i = numbers.below(path.len());
+        near[i] = near[i] + numbers.below(5) as u32 - 2.min(near[i]);
+        checker.judge_path(known, edition, &near);
+    }
+    checker.judge_path(known, edition, &path[1..]);
+    checker.judge_split(w, edition, &ends[..ends.len() - 1]);
 }
 
 /// The same word one symbol too long for every call: 1 comes before anything else.
@@ -663,27 +792,31 @@ fn words_over_the_limit() {
         for w in [vec![b'a'; n], fibonacci(n)] {
             let known = Known::of(&w);
             let all = n as u32;
-            for (first, last) in [(1, all), (0, all), (2, 1)] {
-                checker.part(&w, first, last);
-            }
             for places in [0, 3, 3 * n] {
                 checker.runs(&known, places);
-                for position in [0, 1, all, all + 1] {
-                    checker.nodes(&known, position, places);
+            }
+            for edition in [0, 1, 2, 3] {
+                for (first, last) in [(1, all), (0, all), (2, 1)] {
+                    checker.part(&w, edition, first, last);
                 }
-            }
-            for choice in [0, 1, 2, 3] {
-                for work_places in [0, 4 * (n + 1)] {
-                    checker.best_split(&known, choice, n, work_places);
+                for places in [0, n] {
+                    for position in [0, 1, all, all + 1] {
+                        checker.nodes(&known, edition, position, places);
+                    }
                 }
-            }
-            for ends in [&[][..], &[all], &[0], &[all + 1]] {
-                checker.judge_split(&w, ends);
-                checker.path_of_split(&known, ends, 0);
-                checker.path_of_split(&known, ends, 1);
-            }
-            for path in [&[][..], &[1], &[1, all], &[1, 0]] {
-                checker.judge_path(&known, path);
+                for choice in [0, 1, 2, 3] {
+                    for work_places in [0, 4 * (n + 1)] {
+                        checker.best_split(&known, edition, choice, n, work_places);
+                    }
+                }
+                for ends in [&[][..], &[all], &[0], &[all + 1]] {
+                    checker.judge_split(&w, edition, ends);
+                    checker.path_of_split(&known, edition, ends, 0);
+                    checker.path_of_split(&known, edition, ends, 1);
+                }
+                for path in [&[][..], &[1], &[1, all], &[1, 0]] {
+                    checker.judge_path(&known, edition, path);
+                }
             }
         }
     }
@@ -765,6 +898,7 @@ fn every_refusal_in_its_order() {
     let word = b"aabaabaa";
     let known = Known::of(word);
     let baa = Known::of(b"baa");
+    let equal = Known::of(b"aaaaaa");
     let long = vec![b'a'; 4097];
     let too_long = Known::of(&long);
     let expect = |checker: &mut Checker, number: usize, make: &dyn Fn(&mut Checker)| {
@@ -772,57 +906,94 @@ fn every_refusal_in_its_order() {
         make(checker);
         assert_eq!(checker.met[number], before + 1, "refusal {number}");
     };
-    // part: 1, 6
-    expect(&mut checker, 1, &|c| c.part(&long, 0, 0));
+    // part: 1, 12, 6
+    expect(&mut checker, 1, &|c| c.part(&long, 0, 0, 0));
+    expect(&mut checker, 12, &|c| c.part(word, 0, 0, 0));
+    expect(&mut checker, 12, &|c| c.part(word, 3, 1, 8));
     for (first, last) in [(0, 8), (1, 9), (5, 4), (0, 0), (9, 9)] {
-        expect(&mut checker, 6, &|c| c.part(word, first, last));
+        for edition in EDITIONS {
+            expect(&mut checker, 6, &|c| c.part(word, edition, first, last));
+        }
     }
     // runs: 1, 7
     expect(&mut checker, 1, &|c| c.runs(&too_long, 0));
     expect(&mut checker, 7, &|c| c.runs(&known, 11));
     expect(&mut checker, 0, &|c| c.runs(&known, 12));
-    // nodes: 1, 6, 7
-    expect(&mut checker, 1, &|c| c.nodes(&too_long, 0, 0));
-    expect(&mut checker, 6, &|c| c.nodes(&known, 0, 0));
-    expect(&mut checker, 6, &|c| c.nodes(&known, 9, 0));
-    expect(&mut checker, 7, &|c| c.nodes(&known, 8, 1));
-    expect(&mut checker, 0, &|c| c.nodes(&known, 8, 2));
-    // best split: 1, 8, 9, 2, 7
-    expect(&mut checker, 1, &|c| c.best_split(&too_long, 3, 0, 0));
-    expect(&mut checker, 8, &|c| c.best_split(&baa, 3, 0, 0));
-    expect(&mut checker, 8, &|c| c.best_split(&baa, 0, 0, 16));
-    expect(&mut checker, 9, &|c| c.best_split(&baa, 1, 0, 15));
-    expect(&mut checker, 2, &|c| c.best_split(&baa, 1, 0, 16));
-    expect(&mut checker, 7, &|c| c.best_split(&known, 2, 1, 36));
-    expect(&mut checker, 0, &|c| c.best_split(&known, 2, 2, 36));
-    // judge a split: 1; 3, 4 for each end; 5
-    expect(&mut checker, 1, &|c| c.judge_split(&long, &[0]));
-    expect(&mut checker, 3, &|c| c.judge_split(word, &[0]));
-    expect(&mut checker, 3, &|c| c.judge_split(word, &[2, 2, 8]));
-    expect(&mut checker, 3, &|c| c.judge_split(word, &[2, 9]));
-    expect(&mut checker, 4, &|c| c.judge_split(word, &[3, 3]));
-    expect(&mut checker, 4, &|c| c.judge_split(word, &[2, 4]));
-    expect(&mut checker, 5, &|c| c.judge_split(word, &[2]));
-    expect(&mut checker, 5, &|c| c.judge_split(word, &[]));
-    // path of a split: the same, then 7
-    expect(&mut checker, 1, &|c| c.path_of_split(&too_long, &[0], 0));
-    expect(&mut checker, 3, &|c| c.path_of_split(&known, &[9], 0));
-    expect(&mut checker, 4, &|c| c.path_of_split(&known, &[3, 8], 0));
-    expect(&mut checker, 5, &|c| c.path_of_split(&known, &[2], 0));
-    expect(&mut checker, 7, &|c| c.path_of_split(&known, &[2, 8], 1));
-    expect(&mut checker, 0, &|c| c.path_of_split(&known, &[2, 8], 2));
-    // judge a path: 1, 10, then as for a split
-    expect(&mut checker, 1, &|c| c.judge_path(&too_long, &[1]));
-    expect(&mut checker, 10, &|c| c.judge_path(&known, &[0]));
-    expect(&mut checker, 10, &|c| c.judge_path(&known, &[1, 0, 1]));
-    expect(&mut checker, 3, &|c| c.judge_path(&known, &[0, 0]));
-    expect(&mut checker, 3, &|c| c.judge_path(&known, &[1, 2, 9, 2]));
-    for path in [[0, 8], [5, 8], [1, 8], [2, 5], [4, 8]] {
-        expect(&mut checker, 4, &|c| c.judge_path(&known, &path));
+    // nodes: 1, 12, 6, 7
+    expect(&mut checker, 1, &|c| c.nodes(&too_long, 0, 0, 0));
+    expect(&mut checker, 12, &|c| c.nodes(&known, 0, 0, 0));
+    expect(&mut checker, 12, &|c| c.nodes(&known, 3, 8, 1));
+    expect(&mut checker, 6, &|c| c.nodes(&known, 1, 0, 0));
+    expect(&mut checker, 6, &|c| c.nodes(&known, 2, 9, 0));
+    expect(&mut checker, 7, &|c| c.nodes(&known, 1, 8, 1));
+    expect(&mut checker, 0, &|c| c.nodes(&known, 1, 8, 2));
+    expect(&mut checker, 0, &|c| c.nodes(&known, 2, 8, 0));
+    expect(&mut checker, 7, &|c| c.nodes(&equal, 2, 3, 0));
+    expect(&mut checker, 0, &|c| c.nodes(&equal, 2, 3, 1));
+    // best split: 1, 12, 8, 9, 2, 7
+    expect(&mut checker, 1, &|c| c.best_split(&too_long, 3, 3, 0, 0));
+    expect(&mut checker, 12, &|c| c.best_split(&baa, 0, 3, 0, 0));
+    expect(&mut checker, 12, &|c| c.best_split(&baa, 3, 1, 0, 15));
+    expect(&mut checker, 12, &|c| c.best_split(&baa, 3, 1, 0, 16));
+    expect(&mut checker, 8, &|c| c.best_split(&baa, 1, 3, 0, 0));
+    expect(&mut checker, 8, &|c| c.best_split(&baa, 2, 0, 0, 16));
+    expect(&mut checker, 9, &|c| c.best_split(&baa, 1, 1, 0, 15));
+    expect(&mut checker, 9, &|c| c.best_split(&known, 2, 1, 0, 35));
+    expect(&mut checker, 2, &|c| c.best_split(&baa, 1, 1, 0, 16));
+    expect(&mut checker, 2, &|c| c.best_split(&known, 2, 1, 0, 36));
+    expect(&mut checker, 7, &|c| c.best_split(&known, 1, 2, 1, 36));
+    expect(&mut checker, 0, &|c| c.best_split(&known, 1, 2, 2, 36));
+    expect(&mut checker, 7, &|c| c.best_split(&equal, 2, 2, 1, 28));
+    expect(&mut checker, 0, &|c| c.best_split(&equal, 2, 2, 2, 28));
+    // judge a split: 1; 12; 3, 4 for each end; 5
+    expect(&mut checker, 1, &|c| c.judge_split(&long, 0, &[0]));
+    expect(&mut checker, 12, &|c| c.judge_split(word, 0, &[0]));
+    expect(&mut checker, 12, &|c| c.judge_split(word, 3, &[3, 8]));
+    expect(&mut checker, 12, &|c| c.judge_split(word, 3, &[]));
+    for edition in EDITIONS {
+        expect(&mut checker, 3, &|c| c.judge_split(word, edition, &[0]));
+        expect(&mut checker, 4, &|c| c.judge_split(word, edition, &[3, 3]));
+        expect(&mut checker, 5, &|c| c.judge_split(word, edition, &[]));
     }
-    expect(&mut checker, 5, &|c| c.judge_path(&known, &[1, 2]));
-    expect(&mut checker, 5, &|c| c.judge_path(&known, &[]));
-    expect(&mut checker, 0, &|c| c.judge_path(&known, &[1, 2, 2, 8]));
+    expect(&mut checker, 3, &|c| c.judge_split(word, 1, &[2, 2, 8]));
+    expect(&mut checker, 3, &|c| c.judge_split(word, 1, &[2, 9]));
+    expect(&mut checker, 4, &|c| c.judge_split(word, 1, &[2, 4]));
+    expect(&mut checker, 5, &|c| c.judge_split(word, 1, &[2]));
+    expect(&mut checker, 4, &|c| c.judge_split(word, 2, &[2, 2, 8]));
+    expect(&mut checker, 4, &|c| c.judge_split(word, 2, &[8]));
+    // path of a split: the same, then 7
+    expect(&mut checker, 1, &|c| c.path_of_split(&too_long, 0, &[0], 0));
+    expect(&mut checker, 12, &|c| c.path_of_split(&known, 0, &[9], 0));
+    expect(&mut checker, 12, &|c| c.path_of_split(&known, 3, &[8], 1));
+    expect(&mut checker, 3, &|c| c.path_of_split(&known, 1, &[9], 0));
+    expect(&mut checker, 4, &|c| c.path_of_split(&known, 1, &[3, 8], 0));
+    expect(&mut checker, 4, &|c| c.path_of_split(&known, 2, &[2, 8], 2));
+    expect(&mut checker, 5, &|c| c.path_of_split(&known, 1, &[2], 0));
+    expect(&mut checker, 7, &|c| c.path_of_split(&known, 1, &[2, 8], 1));
+    expect(&mut checker, 0, &|c| c.path_of_split(&known, 1, &[2, 8], 2));
+    expect(&mut checker, 7, &|c| c.path_of_split(&equal, 2, &[3, 6], 1));
+    expect(&mut checker, 0, &|c| c.path_of_split(&equal, 2, &[3, 6], 2));
+    // judge a path: 1, 12, 10, then as for a split
+    expect(&mut checker, 1, &|c| c.judge_path(&too_long, 0, &[1]));
+    expect(&mut checker, 12, &|c| c.judge_path(&known, 0, &[0]));
+    expect(&mut checker, 12, &|c| c.judge_path(&known, 3, &[0, 0]));
+    expect(&mut checker, 12, &|c| c.judge_path(&known, 3, &[0, 8]));
+    expect(&mut checker, 10, &|c| c.judge_path(&known, 1, &[0]));
+    expect(&mut checker, 10, &|c| c.judge_path(&known, 2, &[1, 0, 1]));
+    expect(&mut checker, 3, &|c| c.judge_path(&known, 2, &[0, 0]));
+    expect(&mut checker, 3, &|c| c.judge_path(&known, 1, &[1, 2, 9, 2]));
+    expect(&mut checker, 4, &|c| c.judge_path(&known, 2, &[1, 2, 9, 2]));
+    for path in [[0, 8], [5, 8], [1, 8], [2, 5], [4, 8]] {
+        for edition in EDITIONS {
+            expect(&mut checker, 4, &|c| c.judge_path(&known, edition, &path));
+        }
+    }
+    expect(&mut checker, 5, &|c| c.judge_path(&known, 1, &[1, 2]));
+    expect(&mut checker, 5, &|c| c.judge_path(&known, 2, &[]));
+    expect(&mut checker, 0, &|c| c.judge_path(&known, 1, &[1, 2, 2, 8]));
+    expect(&mut checker, 4, &|c| c.judge_path(&known, 2, &[2, 8]));
+    expect(&mut checker, 4, &|c| c.judge_path(&equal, 2, &[1, 2, 1, 6]));
+    expect(&mut checker, 0, &|c| c.judge_path(&equal, 2, &[1, 3, 1, 6]));
     // write a plan: 1; 3 for each end; 5; 7
     expect(&mut checker, 1, &|c| c.write_plan(4097, &[0], 0));
     expect(&mut checker, 3, &|c| c.write_plan(8, &[9], 0));
@@ -904,14 +1075,15 @@ impl Wrappers {
         self.made += 1;
     }
 
-    fn part(&mut self, w: &[u8], first: u32, last: u32) {
-        let expected = said(reference::part_call(w, first, last), |v| cegridom::Part {
+    fn part(&mut self, w: &[u8], edition: Edition, first: u32, last: u32) {
+        let outcome = reference::part_call(w, edition.number(), first, last);
+        let expected = said(outcome, |v| cegridom::Part {
             unit: v[0],
             turns: v[1],
             rest: v[2],
             block: v[3] == 1,
         });
-        self.agree(cegridom::part(w, first, last), expected);
+        self.agree(cegridom::part(w, edition, first, last), expected);
     }
 
     fn runs(&mut self, known: &Known) {
@@ -926,36 +1098,37 @@ impl Wrappers {
         }
     }
 
-    fn nodes(&mut self, known: &Known, position: u32) {
+    fn nodes(&mut self, known: &Known, edition: Edition, position: u32) {
         let w = known.word;
-        let (outcome, numbers) = reference::nodes_call(w, &known.runs, position, MANY);
-        let got = cegridom::nodes(w, position);
+        let call =
+            |places| reference::nodes_call(w, edition.number(), &known.runs, position, places);
+        let (outcome, numbers) = call(MANY);
+        let got = cegridom::nodes(w, edition, position);
         self.agree(got, said(outcome, |_| numbers.clone()));
         for places in around(numbers.len(), w.len()) {
             let mut lent = vec![GUARD; places];
-            let (outcome, numbers) = reference::nodes_call(w, &known.runs, position, places);
-            let got = cegridom::nodes_into(w, position, &mut lent);
+            let (outcome, numbers) = call(places);
+            let got = cegridom::nodes_into(w, edition, position, &mut lent);
             self.agree(got, said(outcome, only));
             assert_eq!(lent, table(&numbers, places, GUARD));
         }
     }
 
     /// Gives the ends of the best split; none where there is none.
-    fn best_split(&mut self, known: &Known, choice: Choice) -> Vec<u32> {
+    fn best_split(&mut self, known: &Known, edition: Edition, choice: Choice) -> Vec<u32> {
         let w = known.word;
-        let best = &known.best[(choice == Choice::Most) as usize];
-        let call = |places, work_places| {
-            reference::best_call(w, choice.number(), best, places, work_places)
-        };
+        let (e, c) = (edition.number(), choice.number());
+        let best = known.best(e, c);
+        let call = |places, work_places| reference::best_call(w, e, c, best, places, work_places);
         let (outcome, ends, _) = call(MANY, MANY);
-        let got = cegridom::best_split(w, choice);
+        let got = cegridom::best_split(w, edition, choice);
         self.agree(got, said(outcome, |_| ends.clone()));
         let sizes = best.0.iter().map(|&s| (s != reference::NONE).then_some(s));
         let expected = match w.len() {
             0..=LIMIT => Ok(sizes.collect()),
             _ => Err((1, 0)),
         };
-        self.agree(cegridom::best_sizes(w, choice), expected);
+        self.agree(cegridom::best_sizes(w, edition, choice), expected);
         let exact = cegridom::work_places(w.len());
         for (places, work_places) in [
             (ends.len().saturating_sub(1), exact),
@@ -965,7 +1138,7 @@ impl Wrappers {
         ] {
             let (mut lent, mut work) = (vec![GUARD; places], vec![GUARD; work_places]);
             let (outcome, front, work_front) = call(places, work_places);
-            let got = cegridom::best_split_into(w, choice, &mut lent, &mut work);
+            let got = cegridom::best_split_into(w, edition, choice, &mut lent, &mut work);
             self.agree(got, said(outcome, only));
             assert_eq!(lent, table(&front, places, GUARD));
             assert_eq!(work, table(&work_front, work_places, GUARD));
@@ -974,27 +1147,28 @@ impl Wrappers {
     }
 
     /// Gives the run number of each block; none where the ends are not those of a split.
-    fn path_of_split(&mut self, known: &Known, ends: &[u32]) -> Vec<u32> {
+    fn path_of_split(&mut self, known: &Known, edition: Edition, ends: &[u32]) -> Vec<u32> {
         let w = known.word;
-        let (outcome, numbers) = reference::path_call(w, &known.runs, ends, MANY);
-        let got = cegridom::path_of_split(w, ends);
+        let call = |places| reference::path_call(w, edition.number(), &known.runs, ends, places);
+        let (outcome, numbers) = call(MANY);
+        let got = cegridom::path_of_split(w, edition, ends);
         self.agree(got, said(outcome, |_| numbers.clone()));
         for places in around(ends.len(), w.len()) {
             let mut lent = vec![GUARD; places];
-            let (outcome, front) = reference::path_call(w, &known.runs, ends, places);
-            let got = cegridom::path_of_split_into(w, ends, &mut lent);
+            let (outcome, front) = call(places);
+            let got = cegridom::path_of_split_into(w, edition, ends, &mut lent);
             self.agree(got, said(outcome, only));
             assert_eq!(lent, table(&front, places, GUARD));
         }
         numbers
     }
 
-    fn judges(&mut self, known: &Known, ends: &[u32], numbers: &[u32]) {
-        let w = known.word;
-        let outcome = reference::judge_split_call(w, ends);
-        self.agree(cegridom::judge_split(w, ends), said(outcome, only));
-        let outcome = reference::judge_path_call(w, &known.runs, &encoded(numbers, ends));
-        let got = cegridom::judge_path(w, &as_steps(numbers, ends));
+    fn judges(&mut self, known: &Known, edition: Edition, ends: &[u32], numbers: &[u32]) {
+        let (w, number) = (known.word, edition.number());
+        let outcome = reference::judge_split_call(w, number, ends);
+        self.agree(cegridom::judge_split(w, edition, ends), said(outcome, only));
+        let outcome = reference::judge_path_call(w, number, &known.runs, &encoded(numbers, ends));
+        let got = cegridom::judge_path(w, edition, &as_steps(numbers, ends));
         self.agree(got, said(outcome, only));
     }
 
@@ -1038,18 +1212,22 @@ fn wrappers() {
     for w in &words {
         let known = Known::of(w);
         let n = w.len() as u32;
-        for (first, last) in [(1, n), (2, n), (0, n), (n, n), (1, n / 2)] {
-            wrappers.part(w, first, last);
-        }
         wrappers.runs(&known);
-        for position in [0, 1, n / 2, n, n + 1] {
-            wrappers.nodes(&known, position);
-        }
-        for choice in [Choice::Fewest, Choice::Most] {
-            let ends = wrappers.best_split(&known, choice);
-            let numbers = wrappers.path_of_split(&known, &ends);
-            wrappers.judges(&known, &ends, &numbers);
-            wrappers.plans(w.len(), &ends);
+        for edition in [Edition::One, Edition::Two] {
+            for (first, last) in [(1, n), (2, n), (0, n), (n, n), (1, n / 2)] {
+                wrappers.part(w, edition, first, last);
+            }
+            for position in [0, 1, n / 2, n, n + 1] {
+                wrappers.nodes(&known, edition, position);
+            }
+            for choice in [Choice::Fewest, Choice::Most] {
+                let ends = wrappers.best_split(&known, edition, choice);
+                let numbers = wrappers.path_of_split(&known, edition, &ends);
+                for judging in [Edition::One, Edition::Two] {
+                    wrappers.judges(&known, judging, &ends, &numbers);
+                }
+                wrappers.plans(w.len(), &ends);
+            }
         }
     }
     println!("the wrappers: {} comparisons", wrappers.made);

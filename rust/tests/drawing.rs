@@ -5,7 +5,7 @@ mod drawing;
 mod words;
 
 use cegridom::Refusal;
-use drawing::graph::{Edge, Graph, Split};
+use drawing::graph::{Edge, Graph, Split, EDITION};
 use drawing::layout::{Layout, CLEARANCE};
 use words::{every_word, fibonacci, last_differs, thue_morse};
 
@@ -56,7 +56,7 @@ fn the_graph_has_the_white_nodes_of_the_library() {
         for position in 1..=w.len() {
             let here = graph.whites().filter(|white| white.position == position);
             let numbers: Vec<u32> = here.map(|white| white.run as u32).collect();
-            assert_eq!(cegridom::nodes(&w, position as u32), Ok(numbers));
+            assert_eq!(cegridom::nodes(&w, EDITION, position as u32), Ok(numbers));
         }
     }
 }

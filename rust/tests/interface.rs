@@ -1,7 +1,7 @@
 //! What the types of the crate promise: refusals and their numbers, lengths that do not fit, and
 //! the example `fewest`.
 
-use cegridom::{Choice, Refusal, LIMIT};
+use cegridom::{Choice, Edition, Refusal, LIMIT};
 use std::error::Error;
 use std::io::{self, Read};
 
@@ -9,8 +9,8 @@ use std::io::{self, Read};
 #[allow(dead_code)]
 mod fewest;
 
-/// The refusals that document 01 lists, in the order of their numbers, with an index of 7.
-const KNOWN: [Refusal; 11] = [
+/// The refusals that the documents list, in the order of their numbers, with an index of 7.
+const KNOWN: [Refusal; 12] = [
     Refusal::TooLong,
     Refusal::NoSplit,
     Refusal::BadEnd { index: 7 },
@@ -22,6 +22,7 @@ const KNOWN: [Refusal; 11] = [
     Refusal::ShortTable,
     Refusal::OddPath,
     Refusal::NotPlan,
+    Refusal::BadEdition,
 ];
 
 #[test]
@@ -38,7 +39,7 @@ fn refusals_have_their_numbers() {
 
 #[test]
 fn an_unknown_number_is_an_error() {
-    for number in (12..1000).chain([u32::MAX - 1, u32::MAX]) {
+    for number in (13..1000).chain([u32::MAX - 1, u32::MAX]) {
         for index in [0, 1, u32::MAX] {
             let refusal = Refusal::check(number, index).unwrap_err();
             assert!(matches!(refusal, Refusal::Unknown { .. }));
@@ -54,6 +55,12 @@ fn an_unknown_number_is_an_error() {
 fn a_refusal_is_an_error_that_threads_can_share() {
     let error: Box<dyn Error + Send + Sync> = Refusal::NoSplit.into();
     assert_eq!(error.to_string(), "no split exists");
+}
+
+#[test]
+fn editions_have_their_numbers() {
+    assert_eq!(Edition::One.number(), 1);
+    assert_eq!(Edition::Two.number(), 2);
 }
 
 #[test]

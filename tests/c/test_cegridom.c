@@ -60,6 +60,10 @@ static int begins(const uint32_t *places, const uint32_t *numbers, size_t count)
 /* A word of letters as pointer and length. */
 #define WORD(text) ((const uint8_t *)(text)), (sizeof(text) - 1)
 
+/* Numbers that are no edition. */
+static const uint32_t no_editions[] = {0, 3, 4294967295u};
+#define NO_EDITIONS (sizeof no_editions / sizeof *no_editions)
+
 static void test_version(void) {
     char text[32];
     snprintf(text, sizeof text, "%d.%d", CEGRIDOM_VERSION_MAJOR, CEGRIDOM_VERSION_MINOR);
@@ -75,7 +79,8 @@ static void test_message(void) {
         "no split exists",
         "an end not above the one before it (0 before the first), or above n",
         "the piece up to this end is not a block; for a path, no run has that number, or the run "
-        "does not enclose the piece, or the piece is shorter than 2 x the run's unit",
+        "does not enclose the piece, or the piece is shorter than 2 x (edition 2: 3 x) the run's "
+        "unit",
         "the last end (0 if there are none) is not n",
         "first below 1, last above n or first above last; for nodes, a position outside 1 to n",
         "fewer output places (for writing a plan, bytes) than the answer needs",
@@ -83,6 +88,7 @@ static void test_message(void) {
         "a working table under 4 x (n+1) places",
         "a path with an odd count of numbers",
         "bytes that are not one plan line, or whose count of ends differs from the one stated",
+        "an edition other than 1 or 2",
         "unknown result",
     };
     for (uint32_t i = 0; i < sizeof texts / sizeof *texts; i++) {
@@ -91,33 +97,68 @@ static void test_message(void) {
     CHECK(strcmp(cegridom_message(4294967295u), "unknown result") == 0);
 }
 
+/* Whether a part is a block in each edition; what else is said of it does not depend on that. */
+struct part_case {
+    const char *word;
+    uint32_t n, first, last, unit, turns, rest, block[2];
+};
+
+static const struct part_case part_cases[] = {
+    {"ababa", 5, 1, 5, 2, 2, 1, {1, 0}},
+    {"ababab", 6, 1, 6, 2, 3, 0, {1, 1}},
+    {"ababab", 6, 2, 6, 2, 2, 1, {1, 0}},
+    {"aabaabaa", 8, 2, 4, 2, 1, 1, {0, 0}},
+    {"aabaabaa", 8, 1, 8, 3, 2, 2, {1, 0}},
+    {"aabaabaab", 9, 1, 9, 3, 3, 0, {1, 1}},
+    {"a", 1, 1, 1, 1, 1, 0, {0, 0}},
+    {"aaa", 3, 1, 2, 1, 2, 0, {1, 0}},
+    {"aaa", 3, 1, 3, 1, 3, 0, {1, 1}},
+    {"a\0\377a\0\377", 6, 1, 6, 3, 2, 0, {1, 0}},
+};
+
 static void test_part(void) {
-    reset();
-    CHECK(cegridom_part(WORD("ababa"), 1, 5, &a, &b, &c, &d, &index_) == CEGRIDOM_ACCEPTED);
-    CHECK(a == 2 && b == 2 && c == 1 && d == 1 && index_ == 0);
-    reset();
-    CHECK(cegridom_part(WORD("aabaabaa"), 2, 4, &a, &b, &c, &d, &index_) == CEGRIDOM_ACCEPTED);
-    CHECK(a == 2 && b == 1 && c == 1 && d == 0 && index_ == 0);
-    reset();
-    CHECK(cegridom_part(WORD("a"), 1, 1, &a, &b, &c, &d, &index_) == CEGRIDOM_ACCEPTED);
-    CHECK(a == 1 && b == 1 && c == 0 && d == 0 && index_ == 0);
-    reset();
-    CHECK(cegridom_part(WORD("a\0\377a\0\377"), 1, 6, &a, &b, &c, &d, &index_) == CEGRIDOM_ACCEPTED);
-    CHECK(a == 3 && b == 2 && c == 0 && d == 1 && index_ == 0);
+    for (size_t i = 0; i < sizeof part_cases / sizeof *part_cases; i++) {
+        const struct part_case *k = &part_cases[i];
+        const uint8_t *word = (const uint8_t *)k->word;
+        for (uint32_t edition = 1; edition <= 2; edition++) {
+            reset();
+            CHECK(cegridom_part(word, k->n, edition, k->first, k->last, &a, &b, &c, &d, &index_) ==
+                  CEGRIDOM_ACCEPTED);
+            CHECK(a == k->unit && b == k->turns && c == k->rest && d == k->block[edition - 1] &&
+                  index_ == 0);
+        }
+    }
     static const uint32_t outside[][2] = {{0, 1}, {1, 6}, {3, 2}, {0, 0}, {6, 6}};
     for (size_t i = 0; i < sizeof outside / sizeof *outside; i++) {
+        uint32_t first = outside[i][0], last = outside[i][1];
+        for (uint32_t edition = 1; edition <= 2; edition++) {
+            reset();
+            CHECK(cegridom_part(WORD("ababa"), edition, first, last, &a, &b, &c, &d, &index_) ==
+                  CEGRIDOM_BAD_POSITION);
+            CHECK(a == 0 && b == 0 && c == 0 && d == 0 && index_ == 0);
+        }
+        /* 12 comes before 6 */
         reset();
-        CHECK(cegridom_part(WORD("ababa"), outside[i][0], outside[i][1], &a, &b, &c, &d, &index_) ==
-              CEGRIDOM_BAD_POSITION);
+        CHECK(cegridom_part(WORD("ababa"), 3, first, last, &a, &b, &c, &d, &index_) ==
+              CEGRIDOM_BAD_EDITION);
+        CHECK(a == 0 && b == 0 && c == 0 && d == 0 && index_ == 0);
+    }
+    for (size_t i = 0; i < NO_EDITIONS; i++) {
+        reset();
+        CHECK(cegridom_part(WORD("ababa"), no_editions[i], 1, 5, &a, &b, &c, &d, &index_) ==
+              CEGRIDOM_BAD_EDITION);
         CHECK(a == 0 && b == 0 && c == 0 && d == 0 && index_ == 0);
     }
     reset();
-    CHECK(cegridom_part(NULL, 0, 1, 1, &a, &b, &c, &d, &index_) == CEGRIDOM_BAD_POSITION);
+    CHECK(cegridom_part(NULL, 0, CEGRIDOM_EDITION_1, 1, 1, &a, &b, &c, &d, &index_) ==
+          CEGRIDOM_BAD_POSITION);
     CHECK(a == 0 && b == 0 && c == 0 && d == 0 && index_ == 0);
-    reset();
-    CHECK(cegridom_part(longest, CEGRIDOM_LIMIT + 1, 0, 0, &a, &b, &c, &d, &index_) ==
-          CEGRIDOM_TOO_LONG);
-    CHECK(a == 0 && b == 0 && c == 0 && d == 0 && index_ == 0);
+    for (uint32_t edition = 0; edition <= 3; edition++) {
+        reset();
+        CHECK(cegridom_part(longest, CEGRIDOM_LIMIT + 1, edition, 0, 0, &a, &b, &c, &d, &index_) ==
+              CEGRIDOM_TOO_LONG);
+        CHECK(a == 0 && b == 0 && c == 0 && d == 0 && index_ == 0);
+    }
 }
 
 static void test_runs(void) {
@@ -141,52 +182,120 @@ static void test_runs(void) {
     CHECK(a == 0 && index_ == 0);
 }
 
-static void test_nodes(void) {
+/* The runs of aaaaaaabababa: 1 to 7 with unit 1, 7 to 13 with unit 2. Its blocks of edition 2 are
+   fewer than those of edition 1, and so are its white nodes. */
+#define BOTH "aaaaaaabababa"
+
+/* The nodes at a position, of a table with just the places that they need. */
+static void noded(const char *word, uint32_t edition, uint32_t position, const uint32_t *numbers,
+                  size_t count) {
+    size_t n = strlen(word);
     fill(table, 4);
     reset();
-    CHECK(cegridom_nodes(WORD("aabaabaa"), 8, table, 2, &a, &index_) == CEGRIDOM_ACCEPTED);
-    CHECK(a == 2 && index_ == 0 && BEGINS(table, 2, 4));
-    fill(table, 4);
-    reset();
-    CHECK(cegridom_nodes(WORD("aabaabaa"), 7, table, 3, &a, &index_) == CEGRIDOM_ACCEPTED);
-    CHECK(a == 1 && index_ == 0 && BEGINS(table, 2));
-    fill(table, 4);
-    reset();
-    CHECK(cegridom_nodes(WORD("aabaabaa"), 1, NULL, 0, &a, &index_) == CEGRIDOM_ACCEPTED);
-    CHECK(a == 0 && index_ == 0);
-    reset();
-    CHECK(cegridom_nodes(WORD("aabaabaa"), 8, table, 1, &a, &index_) == CEGRIDOM_TOO_FEW_PLACES);
-    CHECK(a == 0 && index_ == 0 && untouched(table, 4));
-    for (uint32_t i = 0; i < 2; i++) {
+    CHECK(cegridom_nodes((const uint8_t *)word, n, edition, position, table, count, &a, &index_) ==
+          CEGRIDOM_ACCEPTED);
+    CHECK(a == count && index_ == 0 && begins(table, numbers, count));
+    if (count > 0) {
+        fill(table, 4);
         reset();
-        CHECK(cegridom_nodes(WORD("aabaabaa"), 9 * i, table, 0, &a, &index_) ==
-              CEGRIDOM_BAD_POSITION);
+        CHECK(cegridom_nodes((const uint8_t *)word, n, edition, position, table, count - 1, &a,
+                             &index_) == CEGRIDOM_TOO_FEW_PLACES);
         CHECK(a == 0 && index_ == 0 && untouched(table, 4));
     }
-    reset();
-    CHECK(cegridom_nodes(longest, CEGRIDOM_LIMIT + 1, 0, NULL, 0, &a, &index_) == CEGRIDOM_TOO_LONG);
-    CHECK(a == 0 && index_ == 0);
 }
 
-/* Document 01's sequences and their ends; a size of CEGRIDOM_NONE for no split. */
+#define NODED(word, edition, position, ...) \
+    noded(word, edition, position, NUMBERS(__VA_ARGS__), COUNT(__VA_ARGS__))
+
+static void test_nodes(void) {
+    NODED("aabaabaa", 1, 8, 2, 4);
+    NODED("aabaabaa", 1, 7, 2);
+    noded("aabaabaa", 1, 1, table, 0);
+    for (uint32_t position = 1; position <= 8; position++) {
+        noded("aabaabaa", 2, position, table, 0);
+    }
+    NODED("aabaabaab", 2, 9, 2);
+    noded("aabaabaab", 2, 8, table, 0);
+    NODED(BOTH, 1, 2, 1);
+    noded(BOTH, 2, 2, table, 0);
+    NODED(BOTH, 2, 3, 1);
+    NODED(BOTH, 2, 7, 1);
+    NODED(BOTH, 1, 10, 2);
+    NODED(BOTH, 1, 11, 2);
+    noded(BOTH, 2, 11, table, 0);
+    NODED(BOTH, 2, 12, 2);
+    NODED(BOTH, 2, 13, 2);
+    reset();
+    CHECK(cegridom_nodes(WORD("aabaabaa"), 1, 1, NULL, 0, &a, &index_) == CEGRIDOM_ACCEPTED);
+    CHECK(a == 0 && index_ == 0);
+    fill(table, 4);
+    for (uint32_t i = 0; i < 2; i++) {
+        for (uint32_t edition = 1; edition <= 2; edition++) {
+            reset();
+            CHECK(cegridom_nodes(WORD("aabaabaa"), edition, 9 * i, table, 0, &a, &index_) ==
+                  CEGRIDOM_BAD_POSITION);
+            CHECK(a == 0 && index_ == 0 && untouched(table, 4));
+        }
+    }
+    for (size_t i = 0; i < NO_EDITIONS; i++) {
+        reset();
+        CHECK(cegridom_nodes(WORD("aabaabaa"), no_editions[i], 8, table, 4, &a, &index_) ==
+              CEGRIDOM_BAD_EDITION);
+        CHECK(a == 0 && index_ == 0 && untouched(table, 4));
+        /* 12 comes before 6 and 7 */
+        reset();
+        CHECK(cegridom_nodes(WORD("aabaabaa"), no_editions[i], 0, table, 0, &a, &index_) ==
+              CEGRIDOM_BAD_EDITION);
+        CHECK(a == 0 && index_ == 0 && untouched(table, 4));
+    }
+    for (uint32_t edition = 0; edition <= 3; edition++) {
+        reset();
+        CHECK(cegridom_nodes(longest, CEGRIDOM_LIMIT + 1, edition, 0, NULL, 0, &a, &index_) ==
+              CEGRIDOM_TOO_LONG);
+        CHECK(a == 0 && index_ == 0);
+    }
+}
+
+/* Document 01's sequences and some more, by edition, and their ends; a size of CEGRIDOM_NONE for no
+   split. */
 struct best_case {
+    uint32_t edition;
     const char *word;
     uint32_t fewest, fewest_ends[4], most, most_ends[4];
 };
 
 static const struct best_case best_cases[] = {
-    {"", 0, {0}, 0, {0}},
-    {"a", CEGRIDOM_NONE, {0}, CEGRIDOM_NONE, {0}},
-    {"ab", CEGRIDOM_NONE, {0}, CEGRIDOM_NONE, {0}},
-    {"aa", 1, {2}, 1, {2}},
-    {"aaaa", 1, {4}, 2, {2, 4}},
-    {"aaaaa", 1, {5}, 2, {2, 5}},
-    {"ababa", 1, {5}, 1, {5}},
-    {"baa", CEGRIDOM_NONE, {0}, CEGRIDOM_NONE, {0}},
-    {"aabb", 2, {2, 4}, 2, {2, 4}},
-    {"aabaabaa", 1, {8}, 2, {2, 8}},
-    {"abaabaababaabaabababa", 2, {16, 21}, 4, {6, 10, 16, 21}},
-    {"aabaabaacbbcbbcbb", 2, {8, 17}, 4, {2, 8, 15, 17}},
+    {1, "", 0, {0}, 0, {0}},
+    {1, "a", CEGRIDOM_NONE, {0}, CEGRIDOM_NONE, {0}},
+    {1, "ab", CEGRIDOM_NONE, {0}, CEGRIDOM_NONE, {0}},
+    {1, "aa", 1, {2}, 1, {2}},
+    {1, "aaaa", 1, {4}, 2, {2, 4}},
+    {1, "aaaaa", 1, {5}, 2, {2, 5}},
+    {1, "ababa", 1, {5}, 1, {5}},
+    {1, "baa", CEGRIDOM_NONE, {0}, CEGRIDOM_NONE, {0}},
+    {1, "aabb", 2, {2, 4}, 2, {2, 4}},
+    {1, "aabaabaa", 1, {8}, 2, {2, 8}},
+    {1, "abaabaababaabaabababa", 2, {16, 21}, 4, {6, 10, 16, 21}},
+    {1, "aabaabaacbbcbbcbb", 2, {8, 17}, 4, {2, 8, 15, 17}},
+    {1, BOTH, 2, {6, 13}, 4, {2, 4, 6, 13}},
+    {2, "", 0, {0}, 0, {0}},
+    {2, "a", CEGRIDOM_NONE, {0}, CEGRIDOM_NONE, {0}},
+    {2, "aa", CEGRIDOM_NONE, {0}, CEGRIDOM_NONE, {0}},
+    {2, "aaa", 1, {3}, 1, {3}},
+    {2, "aaaa", 1, {4}, 1, {4}},
+    {2, "aaaaa", 1, {5}, 1, {5}},
+    {2, "aaaaaa", 1, {6}, 2, {3, 6}},
+    {2, "aaaaaaa", 1, {7}, 2, {3, 7}},
+    {2, "ababa", CEGRIDOM_NONE, {0}, CEGRIDOM_NONE, {0}},
+    {2, "ababab", 1, {6}, 1, {6}},
+    {2, "abababababab", 1, {12}, 2, {6, 12}},
+    {2, "aabb", CEGRIDOM_NONE, {0}, CEGRIDOM_NONE, {0}},
+    {2, "aaabbb", 2, {3, 6}, 2, {3, 6}},
+    {2, "aabaabaa", CEGRIDOM_NONE, {0}, CEGRIDOM_NONE, {0}},
+    {2, "aabaabaab", 1, {9}, 1, {9}},
+    {2, "abaabaababaabaabababa", CEGRIDOM_NONE, {0}, CEGRIDOM_NONE, {0}},
+    {2, "aabaabaacbbcbbcbb", CEGRIDOM_NONE, {0}, CEGRIDOM_NONE, {0}},
+    {2, BOTH, 2, {6, 13}, 3, {3, 6, 13}},
 };
 
 static void test_best_split(void) {
@@ -200,8 +309,8 @@ static void test_best_split(void) {
             fill(table, 6);
             fill(work, needed + 1);
             reset();
-            uint32_t result =
-                cegridom_best_split(word, n, choice, table, 5, work, needed + 1, &a, &index_);
+            uint32_t result = cegridom_best_split(word, n, k->edition, choice, table, 5, work,
+                                                  needed + 1, &a, &index_);
             if (size == CEGRIDOM_NONE) {
                 CHECK(result == CEGRIDOM_NO_SPLIT && a == 0 && index_ == 0);
                 CHECK(untouched(table, 6));
@@ -220,144 +329,253 @@ static void test_best_split(void) {
                 fill(table, 6);
                 fill(work, needed);
                 reset();
-                CHECK(cegridom_best_split(word, n, choice, table, size - 1, work, needed, &a,
-                                          &index_) == CEGRIDOM_TOO_FEW_PLACES);
+                CHECK(cegridom_best_split(word, n, k->edition, choice, table, size - 1, work,
+                                          needed, &a, &index_) == CEGRIDOM_TOO_FEW_PLACES);
                 CHECK(a == 0 && index_ == 0 && untouched(table, 6) && work[n] == size);
             }
             fill(work, needed);
             reset();
-            CHECK(cegridom_best_split(word, n, choice, table, 5, work, needed - 1, &a, &index_) ==
-                  CEGRIDOM_SHORT_TABLE);
+            CHECK(cegridom_best_split(word, n, k->edition, choice, table, 5, work, needed - 1, &a,
+                                      &index_) == CEGRIDOM_SHORT_TABLE);
             CHECK(a == 0 && index_ == 0 && untouched(work, needed));
+            for (size_t e = 0; e < NO_EDITIONS; e++) {
+                /* with enough places; with too few of either table */
+                for (size_t few = 0; few < 3; few++) {
+                    fill(table, 6);
+                    fill(work, needed);
+                    reset();
+                    CHECK(cegridom_best_split(word, n, no_editions[e], choice, table,
+                                              few == 1 ? 0 : 5, work, few == 2 ? 0 : needed, &a,
+                                              &index_) == CEGRIDOM_BAD_EDITION);
+                    CHECK(a == 0 && index_ == 0 && untouched(table, 6) && untouched(work, needed));
+                }
+            }
         }
     }
     fill(work, 20);
     reset();
-    CHECK(cegridom_best_split(WORD("aaaa"), 2, table, 2, work, 20, &a, &index_) == 0);
+    CHECK(cegridom_best_split(WORD("aaaa"), 1, 2, table, 2, work, 20, &a, &index_) == 0);
     CHECK(work[0] == 0 && work[1] == CEGRIDOM_NONE && work[2] == 1 && work[3] == 1 && work[4] == 2);
+    fill(work, 28);
+    reset();
+    CHECK(cegridom_best_split(WORD("aaaaaa"), 2, 2, table, 2, work, 28, &a, &index_) == 0);
+    CHECK(work[0] == 0 && work[1] == CEGRIDOM_NONE && work[2] == CEGRIDOM_NONE && work[3] == 1 &&
+          work[4] == 1 && work[5] == 1 && work[6] == 2);
     for (uint32_t choice = 0; choice <= 3; choice += 3) {
-        fill(work, 20);
+        for (uint32_t edition = 0; edition <= 3; edition++) {
+            /* 12 comes before 8 and 9, and 8 before 9 */
+            uint32_t result =
+                edition == 1 || edition == 2 ? CEGRIDOM_BAD_CHOICE : CEGRIDOM_BAD_EDITION;
+            fill(work, 20);
+            reset();
+            CHECK(cegridom_best_split(WORD("aaaa"), edition, choice, table, 2, work, 0, &a,
+                                      &index_) == result);
+            CHECK(a == 0 && index_ == 0 && untouched(work, 20));
+        }
+    }
+    for (uint32_t edition = 1; edition <= 2; edition++) {
+        uint32_t turns = edition + 1, most = CEGRIDOM_LIMIT / turns;
         reset();
-        CHECK(cegridom_best_split(WORD("aaaa"), choice, table, 2, work, 0, &a, &index_) ==
-              CEGRIDOM_BAD_CHOICE);
-        CHECK(a == 0 && index_ == 0 && untouched(work, 20));
+        CHECK(cegridom_best_split(longest, CEGRIDOM_LIMIT, edition, CEGRIDOM_FEWEST, table, 1, work,
+                                  CEGRIDOM_WORK_PLACES(CEGRIDOM_LIMIT), &a, &index_) == 0);
+        CHECK(a == 1 && table[0] == CEGRIDOM_LIMIT && index_ == 0);
+        reset();
+        CHECK(cegridom_best_split(longest, CEGRIDOM_LIMIT, edition, CEGRIDOM_MOST, table,
+                                  CEGRIDOM_MOST_ENDS(CEGRIDOM_LIMIT), work,
+                                  CEGRIDOM_WORK_PLACES(CEGRIDOM_LIMIT), &a, &index_) == 0);
+        CHECK(a == most && index_ == 0 && table[most - 1] == CEGRIDOM_LIMIT);
+        /* what the turns leave over is in the last block, which is to be longest */
+        int even = 1;
+        for (uint32_t i = 0; i + 1 < most; i++) {
+            even &= table[i] == turns * (i + 1);
+        }
+        CHECK(even);
     }
-    reset();
-    CHECK(cegridom_best_split(longest, CEGRIDOM_LIMIT, CEGRIDOM_FEWEST, table, 1, work,
-                              CEGRIDOM_WORK_PLACES(CEGRIDOM_LIMIT), &a, &index_) == 0);
-    CHECK(a == 1 && table[0] == CEGRIDOM_LIMIT && index_ == 0);
-    reset();
-    CHECK(cegridom_best_split(longest, CEGRIDOM_LIMIT, CEGRIDOM_MOST, table,
-                              CEGRIDOM_MOST_ENDS(CEGRIDOM_LIMIT), work,
-                              CEGRIDOM_WORK_PLACES(CEGRIDOM_LIMIT), &a, &index_) == 0);
-    CHECK(a == 2048 && index_ == 0);
-    int twos = 1;
-    for (uint32_t i = 0; i < 2048; i++) {
-        twos &= table[i] == 2 * (i + 1);
+    for (uint32_t edition = 0; edition <= 3; edition++) {
+        reset();
+        CHECK(cegridom_best_split(longest, CEGRIDOM_LIMIT + 1, edition, 3, NULL, 0, NULL, 0, &a,
+                                  &index_) == CEGRIDOM_TOO_LONG);
+        CHECK(a == 0 && index_ == 0);
     }
-    CHECK(twos);
-    reset();
-    CHECK(cegridom_best_split(longest, CEGRIDOM_LIMIT + 1, 3, NULL, 0, NULL, 0, &a, &index_) ==
-          CEGRIDOM_TOO_LONG);
-    CHECK(a == 0 && index_ == 0);
 }
 
-/* Judges ends on aabaabaa. */
-static void judged(const uint32_t *ends, size_t count, uint32_t result, uint32_t index,
-                   uint32_t blocks) {
+/* Judges ends of a word. */
+static void judged(const char *text, uint32_t edition, const uint32_t *ends, size_t count,
+                   uint32_t result, uint32_t index, uint32_t blocks) {
+    const uint8_t *word = (const uint8_t *)text;
+    size_t n = strlen(text);
     reset();
-    CHECK(cegridom_judge_split(WORD("aabaabaa"), ends, count, &a, &index_) == result);
+    CHECK(cegridom_judge_split(word, n, edition, ends, count, &a, &index_) == result);
     CHECK(a == blocks && index_ == index);
     /* path of a split refuses the same */
-    fill(table, 4);
+    fill(table, 5);
     reset();
-    CHECK(cegridom_path_of_split(WORD("aabaabaa"), ends, count, table, 3, &a, &index_) == result);
+    CHECK(cegridom_path_of_split(word, n, edition, ends, count, table, 4, &a, &index_) == result);
     CHECK(a == blocks && index_ == index);
-    CHECK(result == 0 || untouched(table, 4));
+    CHECK(result == 0 || untouched(table, 5));
 }
 
-#define JUDGED(result, index, blocks, ...) \
-    judged(NUMBERS(__VA_ARGS__), COUNT(__VA_ARGS__), result, index, blocks)
+#define JUDGED(text, edition, result, index, blocks, ...) \
+    judged(text, edition, NUMBERS(__VA_ARGS__), COUNT(__VA_ARGS__), result, index, blocks)
 
 static void test_judge_split(void) {
-    JUDGED(CEGRIDOM_ACCEPTED, 0, 1, 8);
-    JUDGED(CEGRIDOM_ACCEPTED, 0, 2, 2, 8);
-    JUDGED(CEGRIDOM_ACCEPTED, 0, 2, 6, 8);
-    JUDGED(CEGRIDOM_NOT_BLOCK, 1, 0, 3, 8);
-    JUDGED(CEGRIDOM_BAD_END, 2, 0, 2, 2, 8);
-    JUDGED(CEGRIDOM_BAD_END, 2, 0, 2, 9);
-    JUDGED(CEGRIDOM_BAD_END, 1, 0, 0);
-    JUDGED(CEGRIDOM_UNFINISHED, 0, 0, 2);
-    judged(NULL, 0, CEGRIDOM_UNFINISHED, 0, 0);
+    JUDGED("aabaabaa", 1, CEGRIDOM_ACCEPTED, 0, 1, 8);
+    JUDGED("aabaabaa", 1, CEGRIDOM_ACCEPTED, 0, 2, 2, 8);
+    JUDGED("aabaabaa", 1, CEGRIDOM_ACCEPTED, 0, 2, 6, 8);
+    JUDGED("aabaabaa", 1, CEGRIDOM_NOT_BLOCK, 1, 0, 3, 8);
+    JUDGED("aabaabaa", 1, CEGRIDOM_BAD_END, 2, 0, 2, 2, 8);
+    JUDGED("aabaabaa", 1, CEGRIDOM_BAD_END, 2, 0, 2, 9);
+    JUDGED("aabaabaa", 1, CEGRIDOM_BAD_END, 1, 0, 0);
+    JUDGED("aabaabaa", 1, CEGRIDOM_UNFINISHED, 0, 0, 2);
+    judged("aabaabaa", 1, NULL, 0, CEGRIDOM_UNFINISHED, 0, 0);
+    JUDGED("aabaabaacbbcbbcbb", 1, CEGRIDOM_ACCEPTED, 0, 4, 6, 8, 15, 17);
+    JUDGED("aabaabaa", 2, CEGRIDOM_NOT_BLOCK, 1, 0, 8);
+    JUDGED("aabaabaa", 2, CEGRIDOM_NOT_BLOCK, 1, 0, 2, 2, 8);
+    JUDGED("aabaabaa", 2, CEGRIDOM_BAD_END, 1, 0, 9);
+    judged("aabaabaa", 2, NULL, 0, CEGRIDOM_UNFINISHED, 0, 0);
+    JUDGED(BOTH, 2, CEGRIDOM_ACCEPTED, 0, 2, 6, 13);
+    JUDGED(BOTH, 2, CEGRIDOM_ACCEPTED, 0, 2, 7, 13);
+    JUDGED(BOTH, 2, CEGRIDOM_ACCEPTED, 0, 3, 3, 6, 13);
+    JUDGED(BOTH, 1, CEGRIDOM_ACCEPTED, 0, 3, 2, 6, 13);
+    JUDGED(BOTH, 2, CEGRIDOM_NOT_BLOCK, 1, 0, 2, 6, 13);
+    JUDGED(BOTH, 1, CEGRIDOM_NOT_BLOCK, 3, 0, 6, 11, 13);
+    JUDGED(BOTH, 2, CEGRIDOM_NOT_BLOCK, 2, 0, 6, 11, 13);
+    JUDGED(BOTH, 2, CEGRIDOM_BAD_END, 2, 0, 6, 6, 13);
+    JUDGED(BOTH, 2, CEGRIDOM_BAD_END, 2, 0, 6, 14);
+    JUDGED(BOTH, 2, CEGRIDOM_UNFINISHED, 0, 0, 6, 12);
+    for (size_t i = 0; i < NO_EDITIONS; i++) {
+        /* 12 comes before 3, 4, 5 and 7 */
+        JUDGED("aabaabaa", no_editions[i], CEGRIDOM_BAD_EDITION, 0, 0, 2, 8);
+        JUDGED("aabaabaa", no_editions[i], CEGRIDOM_BAD_EDITION, 0, 0, 0);
+        JUDGED("aabaabaa", no_editions[i], CEGRIDOM_BAD_EDITION, 0, 0, 3, 8);
+        judged("aabaabaa", no_editions[i], NULL, 0, CEGRIDOM_BAD_EDITION, 0, 0);
+        judged("", no_editions[i], NULL, 0, CEGRIDOM_BAD_EDITION, 0, 0);
+        fill(table, 4);
+        reset();
+        CHECK(cegridom_path_of_split(WORD("aabaabaa"), no_editions[i], NUMBERS(2, 8), 2, table, 1,
+                                     &a, &index_) == CEGRIDOM_BAD_EDITION);
+        CHECK(a == 0 && index_ == 0 && untouched(table, 4));
+    }
+    for (uint32_t edition = 1; edition <= 2; edition++) {
+        reset();
+        CHECK(cegridom_judge_split(NULL, 0, edition, NULL, 0, &a, &index_) == CEGRIDOM_ACCEPTED);
+        CHECK(a == 0 && index_ == 0);
+    }
+    for (uint32_t edition = 0; edition <= 3; edition++) {
+        reset();
+        CHECK(cegridom_judge_split(longest, CEGRIDOM_LIMIT + 1, edition, NUMBERS(0), 1, &a,
+                                   &index_) == CEGRIDOM_TOO_LONG);
+        CHECK(a == 0 && index_ == 0);
+    }
+}
+
+/* The run numbers of a split's blocks, in a table with just the places that they need. */
+static void numbered(const char *text, uint32_t edition, const uint32_t *ends,
+                     const uint32_t *numbers, size_t count) {
+    const uint8_t *word = (const uint8_t *)text;
+    size_t n = strlen(text);
+    fill(table, 4);
     reset();
-    CHECK(cegridom_judge_split(NULL, 0, NULL, 0, &a, &index_) == CEGRIDOM_ACCEPTED);
-    CHECK(a == 0 && index_ == 0);
+    CHECK(cegridom_path_of_split(word, n, edition, ends, count, table, count, &a, &index_) == 0);
+    CHECK(a == count && index_ == 0 && begins(table, numbers, count));
+    fill(table, 4);
     reset();
-    CHECK(cegridom_judge_split(WORD("aabaabaacbbcbbcbb"), NUMBERS(6, 8, 15, 17), 4, &a, &index_) == 0);
-    CHECK(a == 4 && index_ == 0);
-    reset();
-    CHECK(cegridom_judge_split(longest, CEGRIDOM_LIMIT + 1, NUMBERS(0), 1, &a, &index_) ==
-          CEGRIDOM_TOO_LONG);
-    CHECK(a == 0 && index_ == 0);
+    CHECK(cegridom_path_of_split(word, n, edition, ends, count, table, count - 1, &a, &index_) ==
+          CEGRIDOM_TOO_FEW_PLACES);
+    CHECK(a == 0 && index_ == 0 && untouched(table, 4));
 }
 
 static void test_path_of_split(void) {
+    numbered("aabaabaa", 1, NUMBERS(2, 8), NUMBERS(1, 2), 2);
+    numbered("aabaabaa", 1, NUMBERS(6, 8), NUMBERS(2, 4), 2);
+    numbered(BOTH, 1, NUMBERS(6, 13), NUMBERS(1, 2), 2);
+    numbered(BOTH, 2, NUMBERS(6, 13), NUMBERS(1, 2), 2);
+    numbered(BOTH, 2, NUMBERS(3, 6, 13), NUMBERS(1, 1, 2), 3);
+    numbered("aabaabaab", 2, NUMBERS(9), NUMBERS(2), 1);
     fill(table, 4);
     reset();
-    CHECK(cegridom_path_of_split(WORD("aabaabaa"), NUMBERS(2, 8), 2, table, 2, &a, &index_) == 0);
-    CHECK(a == 2 && index_ == 0 && BEGINS(table, 1, 2));
-    fill(table, 4);
-    reset();
-    CHECK(cegridom_path_of_split(WORD("aabaabaa"), NUMBERS(6, 8), 2, table, 3, &a, &index_) == 0);
+    CHECK(cegridom_path_of_split(WORD("aabaabaa"), 1, NUMBERS(6, 8), 2, table, 3, &a, &index_) == 0);
     CHECK(a == 2 && index_ == 0 && BEGINS(table, 2, 4));
-    fill(table, 4);
-    reset();
-    CHECK(cegridom_path_of_split(WORD("aabaabaa"), NUMBERS(6, 8), 2, table, 1, &a, &index_) ==
-          CEGRIDOM_TOO_FEW_PLACES);
-    CHECK(a == 0 && index_ == 0 && untouched(table, 4));
-    reset();
-    CHECK(cegridom_path_of_split(NULL, 0, NULL, 0, NULL, 0, &a, &index_) == CEGRIDOM_ACCEPTED);
-    CHECK(a == 0 && index_ == 0);
-    reset();
-    CHECK(cegridom_path_of_split(longest, CEGRIDOM_LIMIT + 1, NULL, 0, NULL, 0, &a, &index_) ==
-          CEGRIDOM_TOO_LONG);
-    CHECK(a == 0 && index_ == 0);
+    for (uint32_t edition = 1; edition <= 2; edition++) {
+        reset();
+        CHECK(cegridom_path_of_split(NULL, 0, edition, NULL, 0, NULL, 0, &a, &index_) ==
+              CEGRIDOM_ACCEPTED);
+        CHECK(a == 0 && index_ == 0);
+    }
+    for (uint32_t edition = 0; edition <= 3; edition++) {
+        reset();
+        CHECK(cegridom_path_of_split(longest, CEGRIDOM_LIMIT + 1, edition, NULL, 0, NULL, 0, &a,
+                                     &index_) == CEGRIDOM_TOO_LONG);
+        CHECK(a == 0 && index_ == 0);
+    }
 }
 
-/* Judges a path of aabaabaa. */
-static void followed(const uint32_t *numbers, size_t count, uint32_t result, uint32_t index,
-                     uint32_t blocks) {
+/* Judges a path of a word. */
+static void followed(const char *text, uint32_t edition, const uint32_t *numbers, size_t count,
+                     uint32_t result, uint32_t index, uint32_t blocks) {
     reset();
-    CHECK(cegridom_judge_path(WORD("aabaabaa"), numbers, count, &a, &index_) == result);
+    CHECK(cegridom_judge_path((const uint8_t *)text, strlen(text), edition, numbers, count, &a,
+                              &index_) == result);
     CHECK(a == blocks && index_ == index);
 }
 
-#define FOLLOWED(result, index, blocks, ...) \
-    followed(NUMBERS(__VA_ARGS__), COUNT(__VA_ARGS__), result, index, blocks)
+#define FOLLOWED(text, edition, result, index, blocks, ...) \
+    followed(text, edition, NUMBERS(__VA_ARGS__), COUNT(__VA_ARGS__), result, index, blocks)
 
 static void test_judge_path(void) {
-    FOLLOWED(CEGRIDOM_ACCEPTED, 0, 1, 2, 8);
-    FOLLOWED(CEGRIDOM_ACCEPTED, 0, 2, 1, 2, 2, 8);
-    FOLLOWED(CEGRIDOM_ACCEPTED, 0, 2, 2, 6, 4, 8);
-    FOLLOWED(CEGRIDOM_ODD_PATH, 0, 0, 0);
-    FOLLOWED(CEGRIDOM_ODD_PATH, 0, 0, 1, 2, 2);
-    FOLLOWED(CEGRIDOM_BAD_END, 1, 0, 0, 0);
-    FOLLOWED(CEGRIDOM_BAD_END, 2, 0, 1, 2, 2, 2);
-    FOLLOWED(CEGRIDOM_BAD_END, 1, 0, 2, 9);
-    FOLLOWED(CEGRIDOM_NOT_BLOCK, 1, 0, 0, 8);
-    FOLLOWED(CEGRIDOM_NOT_BLOCK, 1, 0, 5, 8);
-    FOLLOWED(CEGRIDOM_NOT_BLOCK, 1, 0, 1, 8);
-    FOLLOWED(CEGRIDOM_NOT_BLOCK, 1, 0, 2, 5);
-    FOLLOWED(CEGRIDOM_NOT_BLOCK, 2, 0, 1, 2, 4, 8);
-    FOLLOWED(CEGRIDOM_UNFINISHED, 0, 0, 1, 2);
-    followed(NULL, 0, CEGRIDOM_UNFINISHED, 0, 0);
-    reset();
-    CHECK(cegridom_judge_path(NULL, 0, NULL, 0, &a, &index_) == CEGRIDOM_ACCEPTED);
-    CHECK(a == 0 && index_ == 0);
-    reset();
-    CHECK(cegridom_judge_path(longest, CEGRIDOM_LIMIT + 1, NUMBERS(1), 1, &a, &index_) ==
-          CEGRIDOM_TOO_LONG);
-    CHECK(a == 0 && index_ == 0);
+    FOLLOWED("aabaabaa", 1, CEGRIDOM_ACCEPTED, 0, 1, 2, 8);
+    FOLLOWED("aabaabaa", 1, CEGRIDOM_ACCEPTED, 0, 2, 1, 2, 2, 8);
+    FOLLOWED("aabaabaa", 1, CEGRIDOM_ACCEPTED, 0, 2, 2, 6, 4, 8);
+    FOLLOWED("aabaabaa", 1, CEGRIDOM_ODD_PATH, 0, 0, 0);
+    FOLLOWED("aabaabaa", 1, CEGRIDOM_ODD_PATH, 0, 0, 1, 2, 2);
+    FOLLOWED("aabaabaa", 1, CEGRIDOM_BAD_END, 1, 0, 0, 0);
+    FOLLOWED("aabaabaa", 1, CEGRIDOM_BAD_END, 2, 0, 1, 2, 2, 2);
+    FOLLOWED("aabaabaa", 1, CEGRIDOM_BAD_END, 1, 0, 2, 9);
+    FOLLOWED("aabaabaa", 1, CEGRIDOM_NOT_BLOCK, 1, 0, 0, 8);
+    FOLLOWED("aabaabaa", 1, CEGRIDOM_NOT_BLOCK, 1, 0, 5, 8);
+    FOLLOWED("aabaabaa", 1, CEGRIDOM_NOT_BLOCK, 1, 0, 1, 8);
+    FOLLOWED("aabaabaa", 1, CEGRIDOM_NOT_BLOCK, 1, 0, 2, 5);
+    FOLLOWED("aabaabaa", 1, CEGRIDOM_NOT_BLOCK, 2, 0, 1, 2, 4, 8);
+    FOLLOWED("aabaabaa", 1, CEGRIDOM_UNFINISHED, 0, 0, 1, 2);
+    followed("aabaabaa", 1, NULL, 0, CEGRIDOM_UNFINISHED, 0, 0);
+    FOLLOWED("aabaabaa", 2, CEGRIDOM_NOT_BLOCK, 1, 0, 2, 8);
+    FOLLOWED("aabaabaa", 2, CEGRIDOM_NOT_BLOCK, 1, 0, 1, 2, 2, 8);
+    FOLLOWED("aabaabaab", 2, CEGRIDOM_ACCEPTED, 0, 1, 2, 9);
+    FOLLOWED("aabaabaab", 2, CEGRIDOM_NOT_BLOCK, 1, 0, 2, 8);
+    FOLLOWED(BOTH, 2, CEGRIDOM_ACCEPTED, 0, 2, 1, 6, 2, 13);
+    FOLLOWED(BOTH, 2, CEGRIDOM_ACCEPTED, 0, 2, 1, 7, 2, 13);
+    FOLLOWED(BOTH, 2, CEGRIDOM_ACCEPTED, 0, 3, 1, 3, 1, 6, 2, 13);
+    FOLLOWED(BOTH, 1, CEGRIDOM_ACCEPTED, 0, 3, 1, 2, 1, 6, 2, 13);
+    FOLLOWED(BOTH, 2, CEGRIDOM_NOT_BLOCK, 1, 0, 1, 2, 1, 6, 2, 13);
+    FOLLOWED(BOTH, 1, CEGRIDOM_UNFINISHED, 0, 0, 1, 6, 2, 11);
+    FOLLOWED(BOTH, 2, CEGRIDOM_NOT_BLOCK, 2, 0, 1, 6, 2, 11);
+    FOLLOWED(BOTH, 2, CEGRIDOM_UNFINISHED, 0, 0, 1, 6, 2, 12);
+    FOLLOWED(BOTH, 2, CEGRIDOM_NOT_BLOCK, 1, 0, 2, 6);
+    FOLLOWED(BOTH, 2, CEGRIDOM_NOT_BLOCK, 1, 0, 0, 13);
+    FOLLOWED(BOTH, 2, CEGRIDOM_NOT_BLOCK, 1, 0, 3, 13);
+    FOLLOWED(BOTH, 2, CEGRIDOM_BAD_END, 2, 0, 1, 6, 2, 6);
+    FOLLOWED(BOTH, 2, CEGRIDOM_BAD_END, 2, 0, 1, 6, 2, 14);
+    FOLLOWED(BOTH, 2, CEGRIDOM_ODD_PATH, 0, 0, 1, 6, 2);
+    followed(BOTH, 2, NULL, 0, CEGRIDOM_UNFINISHED, 0, 0);
+    for (size_t i = 0; i < NO_EDITIONS; i++) {
+        /* 12 comes before 10, 3, 4 and 5 */
+        FOLLOWED("aabaabaa", no_editions[i], CEGRIDOM_BAD_EDITION, 0, 0, 2, 8);
+        FOLLOWED("aabaabaa", no_editions[i], CEGRIDOM_BAD_EDITION, 0, 0, 0);
+        FOLLOWED("aabaabaa", no_editions[i], CEGRIDOM_BAD_EDITION, 0, 0, 0, 0);
+        FOLLOWED("aabaabaa", no_editions[i], CEGRIDOM_BAD_EDITION, 0, 0, 0, 8);
+        followed("aabaabaa", no_editions[i], NULL, 0, CEGRIDOM_BAD_EDITION, 0, 0);
+    }
+    for (uint32_t edition = 1; edition <= 2; edition++) {
+        reset();
+        CHECK(cegridom_judge_path(NULL, 0, edition, NULL, 0, &a, &index_) == CEGRIDOM_ACCEPTED);
+        CHECK(a == 0 && index_ == 0);
+    }
+    for (uint32_t edition = 0; edition <= 3; edition++) {
+        reset();
+        CHECK(cegridom_judge_path(longest, CEGRIDOM_LIMIT + 1, edition, NUMBERS(1), 1, &a,
+                                  &index_) == CEGRIDOM_TOO_LONG);
+        CHECK(a == 0 && index_ == 0);
+    }
 }
 
 static void test_write_plan(void) {

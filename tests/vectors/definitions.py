@@ -1,12 +1,14 @@
 #!/usr/bin/env python3
-"""Document 01's definitions and calls, as plainly as the document states them, for the expected
-outputs of the test programs. Nothing is taken from the library or from its runs.
+"""The definitions and calls of document 01 and of document 02's item 1, as plainly as the documents
+state them, for the expected outputs of the test programs. Nothing is taken from the library or from
+its runs.
 
 A word (sequence) is a bytes object, a joint m stands after pass number m, and the part between the
-joints a and b is word[a:b]. A call takes what it is lent and gives its outcome, and then each lent
-table as it is afterwards; a lent table is a list, and is not changed in place.
+joints a and b is word[a:b]. A definition of blocks or nodes is told k, the turns that a block has at
+least, and a call the edition, which sets k. A call takes what it is lent and gives its outcome, and
+then each lent table as it is afterwards; a lent table is a list, and is not changed in place.
 
-Run by itself, this file compares the definitions with one another and with the document's examples.
+Run by itself, this file compares the definitions with one another and with worked examples.
 """
 import re
 from functools import lru_cache
@@ -15,6 +17,7 @@ from itertools import combinations, product
 LIMIT = 4096
 NONE = 4294967295
 FEWEST, MOST = 1, 2
+TURNS = {1: 2, 2: 3}  # k of each edition
 
 
 def accepted(*values):
@@ -47,14 +50,15 @@ def unit(part):
     return p
 
 
-def is_block(part):
-    return len(part) >= 2 * unit(part)
+def is_block(part, k):
+    return len(part) >= k * unit(part)
 
 
 @lru_cache(maxsize=None)
 def runs_of(word):
     """(first, last, unit) of each run, in the order of the run numbers: every first and last is
-    tried, and the two conditions are those of the document, with position 1 at place 0."""
+    tried, and the two conditions are those of the document, with position 1 at place 0. Runs are
+    those of edition 1."""
     n = len(word)
     found = []
     for first in range(1, n + 1):
@@ -62,7 +66,7 @@ def runs_of(word):
             part = word[first - 1 : last]
             p = unit(part)
             if (
-                is_block(part)
+                is_block(part, TURNS[1])
                 and (first == 1 or word[first - 2] != word[first + p - 2])
                 and (last == n or word[last] != word[last - p])
             ):
@@ -70,12 +74,12 @@ def runs_of(word):
     return sorted(found, key=lambda run: (run[0], run[2]))
 
 
-def nodes_at(word, position):
+def nodes_at(word, k, position):
     """The numbers of the runs with a white node at a position, rising."""
     return [
         number
         for number, (first, last, p) in enumerate(runs_of(word), 1)
-        if first + 2 * p - 1 <= position <= last
+        if first + k * p - 1 <= position <= last
     ]
 
 
@@ -83,20 +87,20 @@ def nodes_at(word, position):
 
 
 @lru_cache(maxsize=1)
-def blocks_up_to(word):
+def blocks_up_to(word, k):
     """For each joint m and each joint j below it: 1 where the part between them is a block, or 0."""
-    return [bytes(is_block(word[j:m]) for j in range(m)) for m in range(len(word) + 1)]
+    return [bytes(is_block(word[j:m], k) for j in range(m)) for m in range(len(word) + 1)]
 
 
 @lru_cache(maxsize=2)
-def best_table(word, choice):
+def best_table(word, k, choice):
     """The best size of each leading length, NONE where it has no split, and the joint before the last
     block of the split that wins the tie: the lowest joint, so the longest last block, of those that
     give the best size. The block before it is the last one of the leading part up to that joint."""
     sizes, befores = [0], [0]
     for m in range(1, len(word) + 1):
         best, before = NONE, 0
-        for j, block in enumerate(blocks_up_to(word)[m]):
+        for j, block in enumerate(blocks_up_to(word, k)[m]):
             if block and sizes[j] != NONE:
                 size = sizes[j] + 1
                 if best == NONE or (size < best if choice == FEWEST else size > best):
@@ -106,8 +110,8 @@ def best_table(word, choice):
     return sizes, befores
 
 
-def best_ends(word, choice):
-    _, befores = best_table(word, choice)
+def best_ends(word, k, choice):
+    _, befores = best_table(word, k, choice)
     ends = []
     joint = len(word)
     while joint > 0:
@@ -134,15 +138,17 @@ def verdict(n, ends, fits):
 # ---- the calls, each with its refusals in the document's order
 
 
-def part(word, first, last):
-    """Part: 1, 6. Gives unit, turns, rest, and 1 for a block or 0."""
+def part(word, edition, first, last):
+    """Part: 1, 12, 6. Gives unit, turns, rest, and 1 for a block or 0."""
     if len(word) > LIMIT:
         return refused(1)
+    if edition not in TURNS:
+        return refused(12)
     if first < 1 or last > len(word) or first > last:
         return refused(6)
     piece = word[first - 1 : last]
     p = unit(piece)
-    return accepted(p, len(piece) // p, len(piece) % p, int(is_block(piece)))
+    return accepted(p, len(piece) // p, len(piece) % p, int(is_block(piece, TURNS[edition])))
 
 
 def runs(word, table):
@@ -155,47 +161,54 @@ def runs(word, table):
     return accepted(len(runs_of(word))), written(numbers, table)
 
 
-def nodes(word, position, table):
-    """Nodes: 1, 6, 7."""
+def nodes(word, edition, position, table):
+    """Nodes: 1, 12, 6, 7."""
     if len(word) > LIMIT:
         return refused(1), table
+    if edition not in TURNS:
+        return refused(12), table
     if position < 1 or position > len(word):
         return refused(6), table
-    numbers = nodes_at(word, position)
+    numbers = nodes_at(word, TURNS[edition], position)
     if len(table) < len(numbers):
         return refused(7), table
     return accepted(len(numbers)), written(numbers, table)
 
 
-def best_split(word, choice, ends, work):
-    """Best split: 1, 8, 9, 2, 7. The working table is the same after an answer, 2 and 7."""
+def best_split(word, edition, choice, ends, work):
+    """Best split: 1, 12, 8, 9, 2, 7. The working table is the same after an answer, 2 and 7."""
     n = len(word)
     if n > LIMIT:
         return refused(1), ends, work
+    if edition not in TURNS:
+        return refused(12), ends, work
     if choice not in (FEWEST, MOST):
         return refused(8), ends, work
     if len(work) < 4 * (n + 1):
         return refused(9), ends, work
-    sizes, _ = best_table(word, choice)
+    k = TURNS[edition]
+    sizes, _ = best_table(word, k, choice)
     work = written(sizes + [0] * (3 * (n + 1)), work)
     if sizes[n] == NONE:
         return refused(2), ends, work
     if len(ends) < sizes[n]:
         return refused(7), ends, work
-    return accepted(sizes[n]), written(best_ends(word, choice), ends), work
+    return accepted(sizes[n]), written(best_ends(word, k, choice), ends), work
 
 
-def judge_split(word, ends):
-    """Judge a split: 1; then for each end in turn 3, 4; then 5."""
+def judge_split(word, edition, ends):
+    """Judge a split: 1, 12; then for each end in turn 3, 4; then 5."""
     if len(word) > LIMIT:
         return refused(1)
-    return verdict(len(word), ends, lambda index, a, b: is_block(word[a:b]))
+    if edition not in TURNS:
+        return refused(12)
+    return verdict(len(word), ends, lambda index, a, b: is_block(word[a:b], TURNS[edition]))
 
 
-def path_of_split(word, ends, table):
+def path_of_split(word, edition, ends, table):
     """Path of a split: the same, then 7. Gives the number of the run that encloses each block and has
     its unit."""
-    outcome = judge_split(word, ends)
+    outcome = judge_split(word, edition, ends)
     if is_refused(outcome):
         return outcome, table
     if len(table) < len(ends):
@@ -211,11 +224,13 @@ def path_of_split(word, ends, table):
     return outcome, written(numbers, table)
 
 
-def judge_path(word, numbers):
-    """Judge a path: 1, 10, then as for a split. 4 is: no run has that number, or the run does not
-    enclose the piece, or the piece is shorter than 2 × the run's unit."""
+def judge_path(word, edition, numbers):
+    """Judge a path: 1, 12, 10, then as for a split. 4 is: no run has that number, or the run does not
+    enclose the piece, or the piece is shorter than k × the run's unit."""
     if len(word) > LIMIT:
         return refused(1)
+    if edition not in TURNS:
+        return refused(12)
     if len(numbers) % 2 == 1:
         return refused(10)
 
@@ -224,7 +239,7 @@ def judge_path(word, numbers):
         if not 1 <= number <= len(runs_of(word)):
             return False
         first, last, p = runs_of(word)[number - 1]
-        return first <= a + 1 and b <= last and b - a >= 2 * p
+        return first <= a + 1 and b <= last and b - a >= TURNS[edition] * p
 
     return verdict(len(word), numbers[1::2], fits)
 
@@ -273,11 +288,11 @@ def read_plan(line, table):
     return accepted(n, count), written(ends, table)
 
 
-# ---- the definitions compared with one another, and with the document's examples
+# ---- the definitions compared with one another, and with worked examples
 
 
 @lru_cache(maxsize=None)
-def splits_of(word):
+def splits_of(word, edition):
     """Every split: every choice of joints inside the word is tried, and the last end is n."""
     n = len(word)
     last = [n] if n else []
@@ -285,7 +300,7 @@ def splits_of(word):
         list(inner) + last
         for count in range(max(n, 1))
         for inner in combinations(range(1, n), count)
-        if not is_refused(judge_split(word, list(inner) + last))
+        if not is_refused(judge_split(word, edition, list(inner) + last))
     ]
 
 
@@ -301,45 +316,66 @@ def best_of(splits, choice):
     return size, max((s for s in splits if len(s) == size), key=block_lengths_from_the_end)
 
 
-def paths_of(word, joint=0):
+def paths_of(word, k, joint=0):
     """Every path of the graph from a joint to joint n, as the run number and the joint of each drop."""
     if joint == len(word):
         yield []
     for number, (_, _, p) in enumerate(runs_of(word), 1):
-        position = joint + 2 * p  # where the diagonal leads, if there is a white node
-        while number in nodes_at(word, position):
-            for rest in paths_of(word, position):
+        position = joint + k * p  # where the diagonal leads, if there is a white node
+        while number in nodes_at(word, k, position):
+            for rest in paths_of(word, k, position):
                 yield [number, position] + rest
             position += 1  # the flat edge
 
 
-def judged_paths_of(word, path=()):
+def judged_paths_of(word, edition, path=()):
     """Every path that judge a path accepts. One that is refused with 5 may be gone on with."""
-    outcome = judge_path(word, list(path))
+    outcome = judge_path(word, edition, list(path))
     if not is_refused(outcome):
         yield list(path)
     elif outcome == refused(5):
         for number in range(len(runs_of(word)) + 2):
             for end in range(len(word) + 2):
-                yield from judged_paths_of(word, (*path, number, end))
+                yield from judged_paths_of(word, edition, (*path, number, end))
 
 
-EXAMPLES = [  # sequence, ends of the fewest, ends of the most; None is refusal 2
-    (b"", [], []),
-    (b"a", None, None),
-    (b"ab", None, None),
-    (b"aa", [2], [2]),
-    (b"aaaa", [4], [2, 4]),
-    (b"aaaaa", [5], [2, 5]),
-    (b"ababa", [5], [5]),
-    (b"baa", None, None),
-    (b"aabb", [2, 4], [2, 4]),
-    (b"aabaabaa", [8], [2, 8]),
-    (b"abaabaababaabaabababa", [16, 21], [6, 10, 16, 21]),
-    (b"aabaabaacbbcbbcbb", [8, 17], [2, 8, 15, 17]),
-]
+EXAMPLES = {  # of each edition: sequence, ends of the fewest, ends of the most; None is refusal 2
+    1: [  # document 01's
+        (b"", [], []),
+        (b"a", None, None),
+        (b"ab", None, None),
+        (b"aa", [2], [2]),
+        (b"aaaa", [4], [2, 4]),
+        (b"aaaaa", [5], [2, 5]),
+        (b"ababa", [5], [5]),
+        (b"baa", None, None),
+        (b"aabb", [2, 4], [2, 4]),
+        (b"aabaabaa", [8], [2, 8]),
+        (b"abaabaababaabaabababa", [16, 21], [6, 10, 16, 21]),
+        (b"aabaabaacbbcbbcbb", [8, 17], [2, 8, 15, 17]),
+    ],
+    2: [  # worked out by hand
+        (b"", [], []),
+        (b"a", None, None),
+        (b"aa", None, None),
+        (b"aaa", [3], [3]),
+        (b"aaaaa", [5], [5]),
+        (b"aaaaaa", [6], [3, 6]),
+        (b"aaaaaaaa", [8], [3, 8]),
+        (b"ababa", None, None),
+        (b"ababab", [6], [6]),
+        (b"abababa", [7], [7]),
+        (b"aabb", None, None),
+        (b"aaabbb", [3, 6], [3, 6]),
+        (b"aabaabaa", None, None),
+        (b"aabaabaab", [9], [9]),
+        (b"abababababab", [12], [6, 12]),
+        (b"aaaabababab", [3, 11], [3, 11]),
+        (b"aaaaaabbbccc", [6, 9, 12], [3, 6, 9, 12]),
+    ],
+}
 
-JUDGED = [  # on aabaabaa: ends, and the document's refusal
+JUDGED = [  # on aabaabaa, edition 1: ends, and the document's refusal
     ([3, 8], refused(4, 1)),
     ([2, 2, 8], refused(3, 2)),
     ([2, 9], refused(3, 2)),
@@ -352,41 +388,52 @@ def expect(holds, *what):
         raise SystemExit("definitions: not so: " + " ".join(map(str, what)))
 
 
-def compare_with_enumeration(word):
-    n = len(word)
+def compare_with_enumeration(word, edition):
+    n, k = len(word), TURNS[edition]
     for choice in FEWEST, MOST:
-        leading = [best_of(splits_of(word[:m]), choice) for m in range(n + 1)]
-        sizes, _ = best_table(word, choice)
-        expect(sizes == [size for size, _ in leading], "sizes of", word, choice)
+        leading = [best_of(splits_of(word[:m], edition), choice) for m in range(n + 1)]
+        sizes, _ = best_table(word, k, choice)
+        expect(sizes == [size for size, _ in leading], "sizes of", word, edition, choice)
         if sizes[n] != NONE:
-            expect(best_ends(word, choice) == leading[n][1], "ends of", word, choice)
-    paths = sorted(paths_of(word))
-    expect(sorted(path[1::2] for path in paths) == sorted(splits_of(word)), "one path a split of", word)
-    expect(paths == sorted(judged_paths_of(word)), "paths that are accepted of", word)
+            expect(best_ends(word, k, choice) == leading[n][1], "ends of", word, edition, choice)
+    paths = sorted(paths_of(word, k))
+    splits = sorted(splits_of(word, edition))
+    expect(sorted(path[1::2] for path in paths) == splits, "one path a split of", word, edition)
+    expect(paths == sorted(judged_paths_of(word, edition)), "paths that are accepted of", word, edition)
     for path in paths:
-        _, numbers = path_of_split(word, path[1::2], [0] * (len(path) // 2))
-        expect(numbers == path[0::2], "path of", word, path[1::2])
+        _, numbers = path_of_split(word, edition, path[1::2], [0] * (len(path) // 2))
+        expect(numbers == path[0::2], "path of", word, edition, path[1::2])
+
+
+def compare_with_examples(edition):
+    for word, *both in EXAMPLES[edition]:
+        for choice, ends in zip((FEWEST, MOST), both):
+            outcome, table, _ = best_split(word, edition, choice, [7] * 9, [7] * 100)
+            expected = refused(2) if ends is None else accepted(len(ends))
+            expect(outcome == expected, "outcome of", word, edition, choice)
+            expect(table == written(ends or [], [7] * 9), "ends of", word, edition, choice)
 
 
 def compare_with_document():
-    for word, *both in EXAMPLES:
-        for choice, ends in zip((FEWEST, MOST), both):
-            outcome, table, _ = best_split(word, choice, [7] * 9, [7] * 100)
-            expected = refused(2) if ends is None else accepted(len(ends))
-            expect(outcome == expected, "outcome of", word, choice)
-            expect(table == written(ends or [], [7] * 9), "ends of", word, choice)
     for ends, outcome in JUDGED:
-        expect(judge_split(b"aabaabaa", ends) == outcome, "judged", ends)
-    expect(part(b"ababa", 1, 5) == accepted(2, 2, 1, 1), "part of ababa")
+        expect(judge_split(b"aabaabaa", 1, ends) == outcome, "judged", ends)
+    expect(part(b"ababa", 1, 1, 5) == accepted(2, 2, 1, 1), "part of ababa")
     expect(runs_of(b"aabaabaa") == [(1, 2, 1), (1, 8, 3), (4, 5, 1), (7, 8, 1)], "runs of aabaabaa")
 
 
 def main():
     compare_with_document()
     words = [bytes(letters) for n in range(9) for letters in product(b"ab", repeat=n)]
-    for word in words:
-        compare_with_enumeration(word)
-    print(f"definitions: {len(words)} words compared with the enumeration of their splits and paths")
+    # few of these have a split in edition 2
+    longer = [word for word, *_ in EXAMPLES[2] if 8 < len(word)]
+    for edition in TURNS:
+        compare_with_examples(edition)
+        for word in words + longer:
+            compare_with_enumeration(word, edition)
+    print(
+        f"definitions: {len(words + longer)} words compared with the enumeration of their splits and"
+        " paths, in both editions"
+    )
 
 
 if __name__ == "__main__":

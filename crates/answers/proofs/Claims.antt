@@ -1,4 +1,4 @@
--- The refusals have the numbers 1 to 11, each once; the index is 0 but for 3 and 4; a refusal's number and index determine it.
+-- The refusals have the numbers 1 to 12, each once; the index is 0 but for 3 and 4; a refusal's number and index determine it.
 -- All by computing with the function back from a number to the refusal. Assumes nothing.
 use mathlib.Core.Path.{_≡_, refl, sym, ap, ap₂, _∙_}
 use mathlib.Core.Bool.{Bool, true, cond, _&&_}
@@ -11,12 +11,12 @@ use lib.Dec.{T, eqb, eqb→eq, lit≤}
 use Rattle.answers.specs.declared.Counted.{Counted}
 use Rattle.answers.specs.declared.Counted.the-variants.{Count, Refused}
 use Rattle.answers.specs.declared.Refusal.{Refusal}
-use Rattle.answers.specs.declared.Refusal.the-variants.{TooLong, NoFactorization, BadEnd, NotRepetition, Unfinished, BadPosition, TooFewPlaces, BadChoice, ShortTable, OddPath, NotPlan}
+use Rattle.answers.specs.declared.Refusal.the-variants.{TooLong, NoFactorization, BadEnd, NotRepetition, Unfinished, BadPosition, TooFewPlaces, BadChoice, ShortTable, OddPath, NotPlan, BadEdition}
 use Rattle.answers.specs.Outcome.{Outcome, accepted, refused, codeOf, refusal, countedView}
 
 -- how many refusals there are
 abbrev pub refusals : ℕ
-refusals = 11
+refusals = 12
 
 -- the refusal with a number and an index
 abbrev pub withCode : ℕ → ℕ → Refusal
@@ -27,7 +27,7 @@ withCode n i =
     (cond (eqb n 4) (NotRepetition i)
     (cond (eqb n 5) Unfinished
     (cond (eqb n 6) BadPosition
-    (cond (eqb n 7) TooFewPlaces (cond (eqb n 8) BadChoice (cond (eqb n 9) ShortTable (cond (eqb n 10) OddPath NotPlan)))))))))
+    (cond (eqb n 7) TooFewPlaces (cond (eqb n 8) BadChoice (cond (eqb n 9) ShortTable (cond (eqb n 10) OddPath (cond (eqb n 11) NotPlan BadEdition))))))))))
 
 with-code : (r : Refusal) → withCode (codeOf r .0) (codeOf r .1) ≡ r
 with-code TooLong = refl
@@ -41,6 +41,7 @@ with-code BadChoice = refl
 with-code ShortTable = refl
 with-code OddPath = refl
 with-code NotPlan = refl
+with-code BadEdition = refl
 
 -- a refusal is determined by what it returns
 pub refusal-injective : (r s : Refusal) → refusal r ≡ refusal s → r ≡ s
@@ -49,7 +50,7 @@ refusal-injective r s e =
     let i : codeOf r .1 ≡ codeOf s .1 = cc in
     sym (with-code r) ∙ ap₂ withCode n i ∙ with-code s
 
--- each number is from 1 to 11
+-- each number is from 1 to 12
 pub number-range : (r : Refusal) → (1 ≤ codeOf r .0) × (codeOf r .0 ≤ refusals)
 number-range TooLong = (lit≤ tt, lit≤ tt)
 number-range NoFactorization = (lit≤ tt, lit≤ tt)
@@ -62,6 +63,7 @@ number-range BadChoice = (lit≤ tt, lit≤ tt)
 number-range ShortTable = (lit≤ tt, lit≤ tt)
 number-range OddPath = (lit≤ tt, lit≤ tt)
 number-range NotPlan = (lit≤ tt, lit≤ tt)
+number-range BadEdition = (lit≤ tt, lit≤ tt)
 
 -- the test passes at each number from 1 to n
 abbrev upTo : (ℕ → Bool) → ℕ → Bool
@@ -76,7 +78,7 @@ up-to t (suc n) h i a b = go (up-to t n (and-left (upTo t n) (t (suc n)) h) i a)
     go below (yes l) = let e : i ≡ suc n = omega arith in rw e (and-right (upTo t n) (t (suc n)) h)
     go below (no l) = below (omega arith)
 
--- each number from 1 to 11 is a refusal's
+-- each number from 1 to 12 is a refusal's
 pub number-taken : (n i : ℕ) → 1 ≤ n → n ≤ refusals → codeOf (withCode n i) .0 ≡ n
 number-taken n i a b =
     eqb→eq (codeOf (withCode n i) .0) n (up-to (λ m. eqb (codeOf (withCode m i) .0) m) refusals tt n a b)
@@ -94,6 +96,7 @@ index-zero BadChoice a b = refl
 index-zero ShortTable a b = refl
 index-zero OddPath a b = refl
 index-zero NotPlan a b = refl
+index-zero BadEdition a b = refl
 
 -- nothing is both refused and accepted
 pub refused-accepted : (o : Outcome) (n i : ℕ) (v : List ℕ) → o ≡ refused n i → o ≡ accepted v → ⊥

@@ -1,11 +1,12 @@
--- What a call answers, in document 01's numbers: "The answer to any call ... is a full result or one of eleven numbered refusals."
+-- What a call answers, in the documents' numbers: "The answer to any call ... is a full result or one of eleven numbered refusals", to which document 02
+-- adds 12.
 use mathlib.Core.List.{List, [], _∷_}
 use Prim.Native.Nat.{ℕ}
 use Rattle.answers.specs.declared.Code.{Code}
 use Rattle.answers.specs.declared.Counted.{Counted}
 use Rattle.answers.specs.declared.Counted.the-variants.{Count, Refused}
 use Rattle.answers.specs.declared.Refusal.{Refusal}
-use Rattle.answers.specs.declared.Refusal.the-variants.{TooLong, NoFactorization, BadEnd, NotRepetition, Unfinished, BadPosition, TooFewPlaces, BadChoice, ShortTable, OddPath, NotPlan}
+use Rattle.answers.specs.declared.Refusal.the-variants.{TooLong, NoFactorization, BadEnd, NotRepetition, Unfinished, BadPosition, TooFewPlaces, BadChoice, ShortTable, OddPath, NotPlan, BadEdition}
 
 -- "The limit is n = 4,096."
 abbrev pub limit : ℕ
@@ -29,6 +30,7 @@ codeOf BadChoice = record { 0 = 8; 1 = 0 }
 codeOf ShortTable = record { 0 = 9; 1 = 0 }
 codeOf OddPath = record { 0 = 10; 1 = 0 }
 codeOf NotPlan = record { 0 = 11; 1 = 0 }
+codeOf BadEdition = record { 0 = 12; 1 = 0 }
 
 abbrev pub refusal : Refusal → Outcome
 refusal r = refused (codeOf r .0) (codeOf r .1)

@@ -1,4 +1,4 @@
-// The answers that every call shares: the numbered refusals of document 01, and the limit on the
+// The answers that every call shares: the numbered refusals of the documents, and the limit on the
 // length of a word. A call's own answer enum stands beside the call and holds one of these.
 ghost use mathlib.Core.Path.{_≡_};
 ghost use Rattle.answers.specs.Outcome.{codeOf};
@@ -30,6 +30,8 @@ pub enum Refusal {
     OddPath,
     // 11: bytes that are not one plan line
     NotPlan,
+    // 12: an edition other than 1 or 2
+    BadEdition,
 }
 
 // The answer of a call that gives one number: how many runs, nodes, blocks or bytes there are.
@@ -38,7 +40,7 @@ pub enum Counted {
     Refused(Refusal),
 }
 
-// What document 01 says a refusal returns: its number and its index.
+// What a refusal returns, as document 01 says: its number and its index.
 pub struct Code(pub u32, pub u32);
 
 pub fn coded(r: Refusal) -> Code
@@ -56,5 +58,6 @@ pub fn coded(r: Refusal) -> Code
         Refusal::ShortTable => Code(9, 0),
         Refusal::OddPath => Code(10, 0),
         Refusal::NotPlan => Code(11, 0),
+        Refusal::BadEdition => Code(12, 0),
     }
 }

@@ -22,12 +22,12 @@ valueOf k (accepted v) = getD v k 0
 valueOf k (refused n i) = 0
 
 -- the meanings of best split and of path of a split, of the outcome that is handed over
-abbrev pub BestHanded : List ℕ → ℕ → List ℕ → List ℕ → List ℕ → List ℕ → Type 0
-BestHanded w choice e t x y = BestMeaning w choice e t (bestOutcome w choice e t) x y
+abbrev pub BestHanded : List ℕ → ℕ → ℕ → List ℕ → List ℕ → List ℕ → List ℕ → Type 0
+BestHanded w edition choice e t x y = BestMeaning w edition choice e t (bestOutcome w edition choice e t) x y
 
-abbrev pub PathHanded : List ℕ → List ℕ → List ℕ → List ℕ → Type 0
-PathHanded w ends t u = PathMeaning w ends t (pathOutcome w ends (length t)) u
+abbrev pub PathHanded : List ℕ → ℕ → List ℕ → List ℕ → List ℕ → Type 0
+PathHanded w edition ends t u = PathMeaning w edition ends t (pathOutcome w edition ends (length t)) u
 
--- 1,000 × the major number + the minor one, of version 0.2
+-- 1,000 × the major number + the minor one, of version 0.3
 abbrev pub version : ℕ
-version = 2
+version = 3

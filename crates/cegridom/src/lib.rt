@@ -20,7 +20,7 @@ use periods::PartAnswer;
 use plans::PlanAnswer;
 
 // The version of this interface, 1,000 × major + minor.
-pub const VERSION: u32 = 2;
+pub const VERSION: u32 = 3;
 
 // Takes an answer that gives one number apart.
 fn hand_over(answer: Counted, count: &mut u32, index: &mut u32) -> u32
@@ -105,10 +105,11 @@ fn hand_over_plan(answer: PlanAnswer, n: &mut u32, count: &mut u32, index: &mut 
 }
 
 // Part: the unit, turns and rest of the symbols at the positions first to last, and 1 for a block or
-// 0. Refusals: 1, 6.
+// 0; only whether it is a block depends on the edition. Refusals: 1, 12, 6.
 #[no_mangle]
 pub extern "C" fn cegridom_part(
     w: &[u8],
+    edition: u32,
     first: u32,
     last: u32,
     unit: &mut u32,
@@ -117,15 +118,15 @@ pub extern "C" fn cegridom_part(
     block: &mut u32,
     index: &mut u32,
 ) -> u32
-    ensures result { λ r. ⌜ r ≡ resultOf (partOutcome (now (w .entry)) first last) ⌝ }
-    ensures unit { λ _. ⌜ now (unit .exit) ≡ valueOf 0 (partOutcome (now (w .entry)) first last) ⌝ }
-    ensures turns { λ _. ⌜ now (turns .exit) ≡ valueOf 1 (partOutcome (now (w .entry)) first last) ⌝ }
-    ensures rest { λ _. ⌜ now (rest .exit) ≡ valueOf 2 (partOutcome (now (w .entry)) first last) ⌝ }
-    ensures block { λ _. ⌜ now (block .exit) ≡ valueOf 3 (partOutcome (now (w .entry)) first last) ⌝ }
-    ensures index { λ _. ⌜ now (index .exit) ≡ indexOf (partOutcome (now (w .entry)) first last) ⌝ }
-    ensures meaning { λ _. ⌜ PartMeaning (now (w .entry)) first last (partOutcome (now (w .entry)) first last) ⌝ }
+    ensures result { λ r. ⌜ r ≡ resultOf (partOutcome (now (w .entry)) edition first last) ⌝ }
+    ensures unit { λ _. ⌜ now (unit .exit) ≡ valueOf 0 (partOutcome (now (w .entry)) edition first last) ⌝ }
+    ensures turns { λ _. ⌜ now (turns .exit) ≡ valueOf 1 (partOutcome (now (w .entry)) edition first last) ⌝ }
+    ensures rest { λ _. ⌜ now (rest .exit) ≡ valueOf 2 (partOutcome (now (w .entry)) edition first last) ⌝ }
+    ensures block { λ _. ⌜ now (block .exit) ≡ valueOf 3 (partOutcome (now (w .entry)) edition first last) ⌝ }
+    ensures index { λ _. ⌜ now (index .exit) ≡ indexOf (partOutcome (now (w .entry)) edition first last) ⌝ }
+    ensures meaning { λ _. ⌜ PartMeaning (now (w .entry)) edition first last (partOutcome (now (w .entry)) edition first last) ⌝ }
 {
-    let answer = periods::part(w, first, last);
+    let answer = periods::part(w, edition, first, last);
     hand_over_part(answer, unit, turns, rest, block, index)
 }
 
@@ -147,61 +148,65 @@ pub extern "C" fn cegridom_runs(
     hand_over(answer, count, index)
 }
 
-// Nodes: the numbers of the runs with a white node at a position, and their count. Refusals: 1, 6, 7.
+// Nodes: the numbers of the runs with a white node at a position, and their count.
+// Refusals: 1, 12, 6, 7.
 #[no_mangle]
 pub extern "C" fn cegridom_nodes(
     w: &[u8],
+    edition: u32,
     position: u32,
     table: &mut [u32],
     count: &mut u32,
     index: &mut u32,
 ) -> u32
-    ensures result { λ r. ⌜ r ≡ resultOf (nodesOutcome (now (w .entry)) position (length (now (table .entry)))) ⌝ }
-    ensures count { λ _. ⌜ now (count .exit) ≡ valueOf 0 (nodesOutcome (now (w .entry)) position (length (now (table .entry)))) ⌝ }
-    ensures index { λ _. ⌜ now (index .exit) ≡ indexOf (nodesOutcome (now (w .entry)) position (length (now (table .entry)))) ⌝ }
-    ensures written { λ _. ⌜ now (table .exit) ≡ nodesTable (now (w .entry)) position (now (table .entry)) ⌝ }
-    ensures meaning { λ _. ⌜ NodesMeaning (now (w .entry)) position (now (table .entry)) (nodesOutcome (now (w .entry)) position (length (now (table .entry)))) (now (table .exit)) ⌝ }
+    ensures result { λ r. ⌜ r ≡ resultOf (nodesOutcome (now (w .entry)) edition position (length (now (table .entry)))) ⌝ }
+    ensures count { λ _. ⌜ now (count .exit) ≡ valueOf 0 (nodesOutcome (now (w .entry)) edition position (length (now (table .entry)))) ⌝ }
+    ensures index { λ _. ⌜ now (index .exit) ≡ indexOf (nodesOutcome (now (w .entry)) edition position (length (now (table .entry)))) ⌝ }
+    ensures written { λ _. ⌜ now (table .exit) ≡ nodesTable (now (w .entry)) edition position (now (table .entry)) ⌝ }
+    ensures meaning { λ _. ⌜ NodesMeaning (now (w .entry)) edition position (now (table .entry)) (nodesOutcome (now (w .entry)) edition position (length (now (table .entry)))) (now (table .exit)) ⌝ }
 {
-    let answer = nodes::nodes(w, position, table);
+    let answer = nodes::nodes(w, edition, position, table);
     hand_over(answer, count, index)
 }
 
 // Best split: the ends of the best factorization and its size; choice 1 is fewest, 2 is most.
-// Refusals: 1, 8, 9, 2, 7.
+// Refusals: 1, 12, 8, 9, 2, 7.
 #[no_mangle]
 pub extern "C" fn cegridom_best_split(
     w: &[u8],
+    edition: u32,
     choice: u32,
     ends: &mut [u32],
     work: &mut [u32],
     size: &mut u32,
     index: &mut u32,
 ) -> u32
-    ensures result { λ r. ⌜ r ≡ resultOf (bestOutcome (now (w .entry)) choice (now (ends .entry)) (now (work .entry))) ⌝ }
-    ensures size { λ _. ⌜ now (size .exit) ≡ valueOf 0 (bestOutcome (now (w .entry)) choice (now (ends .entry)) (now (work .entry))) ⌝ }
-    ensures index { λ _. ⌜ now (index .exit) ≡ indexOf (bestOutcome (now (w .entry)) choice (now (ends .entry)) (now (work .entry))) ⌝ }
-    ensures written { λ _. ⌜ now (ends .exit) ≡ bestEndsTable (now (w .entry)) choice (now (ends .entry)) (now (work .entry)) ⌝ }
-    ensures worked { λ _. ⌜ now (work .exit) ≡ bestWork (now (w .entry)) choice (now (work .entry)) ⌝ }
-    ensures meaning { λ _. ⌜ BestHanded (now (w .entry)) choice (now (ends .entry)) (now (work .entry)) (now (ends .exit)) (now (work .exit)) ⌝ }
+    ensures result { λ r. ⌜ r ≡ resultOf (bestOutcome (now (w .entry)) edition choice (now (ends .entry)) (now (work .entry))) ⌝ }
+    ensures size { λ _. ⌜ now (size .exit) ≡ valueOf 0 (bestOutcome (now (w .entry)) edition choice (now (ends .entry)) (now (work .entry))) ⌝ }
+    ensures index { λ _. ⌜ now (index .exit) ≡ indexOf (bestOutcome (now (w .entry)) edition choice (now (ends .entry)) (now (work .entry))) ⌝ }
+    ensures written { λ _. ⌜ now (ends .exit) ≡ bestEndsTable (now (w .entry)) edition choice (now (ends .entry)) (now (work .entry)) ⌝ }
+    ensures worked { λ _. ⌜ now (work .exit) ≡ bestWork (now (w .entry)) edition choice (now (work .entry)) ⌝ }
+    ensures meaning { λ _. ⌜ BestHanded (now (w .entry)) edition choice (now (ends .entry)) (now (work .entry)) (now (ends .exit)) (now (work .exit)) ⌝ }
 {
-    let answer = repetitions::best_split(w, choice, ends, work);
+    let answer = repetitions::best_split(w, edition, choice, ends, work);
     hand_over(answer, size, index)
 }
 
-// Judge a split: its number of blocks. Refusals: 1; then for each end in turn 3, 4; then 5.
+// Judge a split: its number of blocks. Refusals: 1, 12; then for each end in turn 3, 4; then 5.
 #[no_mangle]
 pub extern "C" fn cegridom_judge_split(
     w: &[u8],
+    edition: u32,
     ends: &[u32],
     blocks: &mut u32,
     index: &mut u32,
 ) -> u32
-    ensures result { λ r. ⌜ r ≡ resultOf (splitOutcome (now (w .entry)) (now (ends .entry))) ⌝ }
-    ensures blocks { λ _. ⌜ now (blocks .exit) ≡ valueOf 0 (splitOutcome (now (w .entry)) (now (ends .entry))) ⌝ }
-    ensures index { λ _. ⌜ now (index .exit) ≡ indexOf (splitOutcome (now (w .entry)) (now (ends .entry))) ⌝ }
-    ensures meaning { λ _. ⌜ SplitMeaning (now (w .entry)) (now (ends .entry)) (splitOutcome (now (w .entry)) (now (ends .entry))) ⌝ }
+    ensures result { λ r. ⌜ r ≡ resultOf (splitOutcome (now (w .entry)) edition (now (ends .entry))) ⌝ }
+    ensures blocks { λ _. ⌜ now (blocks .exit) ≡ valueOf 0 (splitOutcome (now (w .entry)) edition (now (ends .entry))) ⌝ }
+    ensures index { λ _. ⌜ now (index .exit) ≡ indexOf (splitOutcome (now (w .entry)) edition (now (ends .entry))) ⌝ }
+    ensures meaning { λ _. ⌜ SplitMeaning (now (w .entry)) edition (now (ends .entry)) (splitOutcome (now (w .entry)) edition (now (ends .entry))) ⌝ }
 {
-    let answer = repetitions::judge_split(w, ends);
+    let answer = repetitions::judge_split(w, edition, ends);
     hand_over(answer, blocks, index)
 }
 
@@ -210,36 +215,38 @@ pub extern "C" fn cegridom_judge_split(
 #[no_mangle]
 pub extern "C" fn cegridom_path_of_split(
     w: &[u8],
+    edition: u32,
     ends: &[u32],
     table: &mut [u32],
     blocks: &mut u32,
     index: &mut u32,
 ) -> u32
-    ensures result { λ r. ⌜ r ≡ resultOf (pathOutcome (now (w .entry)) (now (ends .entry)) (length (now (table .entry)))) ⌝ }
-    ensures blocks { λ _. ⌜ now (blocks .exit) ≡ valueOf 0 (pathOutcome (now (w .entry)) (now (ends .entry)) (length (now (table .entry)))) ⌝ }
-    ensures index { λ _. ⌜ now (index .exit) ≡ indexOf (pathOutcome (now (w .entry)) (now (ends .entry)) (length (now (table .entry)))) ⌝ }
-    ensures written { λ _. ⌜ now (table .exit) ≡ pathTable (now (w .entry)) (now (ends .entry)) (now (table .entry)) ⌝ }
-    ensures meaning { λ _. ⌜ PathHanded (now (w .entry)) (now (ends .entry)) (now (table .entry)) (now (table .exit)) ⌝ }
+    ensures result { λ r. ⌜ r ≡ resultOf (pathOutcome (now (w .entry)) edition (now (ends .entry)) (length (now (table .entry)))) ⌝ }
+    ensures blocks { λ _. ⌜ now (blocks .exit) ≡ valueOf 0 (pathOutcome (now (w .entry)) edition (now (ends .entry)) (length (now (table .entry)))) ⌝ }
+    ensures index { λ _. ⌜ now (index .exit) ≡ indexOf (pathOutcome (now (w .entry)) edition (now (ends .entry)) (length (now (table .entry)))) ⌝ }
+    ensures written { λ _. ⌜ now (table .exit) ≡ pathTable (now (w .entry)) edition (now (ends .entry)) (now (table .entry)) ⌝ }
+    ensures meaning { λ _. ⌜ PathHanded (now (w .entry)) edition (now (ends .entry)) (now (table .entry)) (now (table .exit)) ⌝ }
 {
-    let answer = paths::path_of_split(w, ends, table);
+    let answer = paths::path_of_split(w, edition, ends, table);
     hand_over(answer, blocks, index)
 }
 
-// Judge a path, for each block a run number and then an end: its number of blocks. Refusals: 1, 10,
-// then as for a split.
+// Judge a path, for each block a run number and then an end: its number of blocks. Refusals: 1, 12,
+// 10, then as for a split.
 #[no_mangle]
 pub extern "C" fn cegridom_judge_path(
     w: &[u8],
+    edition: u32,
     numbers: &[u32],
     blocks: &mut u32,
     index: &mut u32,
 ) -> u32
-    ensures result { λ r. ⌜ r ≡ resultOf (pathJudgedOutcome (now (w .entry)) (now (numbers .entry))) ⌝ }
-    ensures blocks { λ _. ⌜ now (blocks .exit) ≡ valueOf 0 (pathJudgedOutcome (now (w .entry)) (now (numbers .entry))) ⌝ }
-    ensures index { λ _. ⌜ now (index .exit) ≡ indexOf (pathJudgedOutcome (now (w .entry)) (now (numbers .entry))) ⌝ }
-    ensures meaning { λ _. ⌜ PathJudgedMeaning (now (w .entry)) (now (numbers .entry)) (pathJudgedOutcome (now (w .entry)) (now (numbers .entry))) ⌝ }
+    ensures result { λ r. ⌜ r ≡ resultOf (pathJudgedOutcome (now (w .entry)) edition (now (numbers .entry))) ⌝ }
+    ensures blocks { λ _. ⌜ now (blocks .exit) ≡ valueOf 0 (pathJudgedOutcome (now (w .entry)) edition (now (numbers .entry))) ⌝ }
+    ensures index { λ _. ⌜ now (index .exit) ≡ indexOf (pathJudgedOutcome (now (w .entry)) edition (now (numbers .entry))) ⌝ }
+    ensures meaning { λ _. ⌜ PathJudgedMeaning (now (w .entry)) edition (now (numbers .entry)) (pathJudgedOutcome (now (w .entry)) edition (now (numbers .entry))) ⌝ }
 {
-    let answer = paths::judge_path(w, numbers);
+    let answer = paths::judge_path(w, edition, numbers);
     hand_over(answer, blocks, index)
 }
 

@@ -1,4 +1,4 @@
--- The meaning of the nodes call leaves one answer and one table: what means what document 01 says is what is computed. Two rising lists of numbers with the
+-- The meaning of the nodes call leaves one answer and one table: what means what the documents say is what is computed. Two rising lists of numbers with the
 -- same members are one. By induction on both lists, then by the order of the tests. Assumes nothing.
 use mathlib.Core.Path.{_≡_, refl, sym, ap, _∙_, subst}
 use mathlib.Core.Logic.{_⊎_, inl, inr}
@@ -8,14 +8,15 @@ use Prim.Native.Nat.{ℕ, _≤_, _<_}
 use native.Mathlib.Omega.{arith}
 use lib.ListN.{length, drop}
 use Rattle.answers.specs.Outcome.{Outcome, accepted}
-use Rattle.periods.specs.Period.{anyPeriod, turns}
+use Rattle.periods.specs.Period.{anyPeriod}
+use Rattle.periods.specs.Edition.{turnsOf}
 use Rattle.runs.specs.declared.Record.{Record}
 use Rattle.runs.specs.Run.{Lists}
 use Rattle.runs.specs.Table.{runsOf}
 use Rattle.nodes.specs.Node.{nodesAt}
 use Rattle.nodes.specs.Calls.{nodesOutcome, nodesTable, NodesMeaning, Rising, ListsNodes}
 use Rattle.runs.proofs.Listed.{runs-listed}
-use Rattle.nodes.proofs.CallClaims.{listed-nodes, nodes-too-long, nodes-outside, nodes-few, nodes-all}
+use Rattle.nodes.proofs.CallClaims.{listed-nodes, nodes-too-long, nodes-bad-edition, nodes-outside, nodes-few, nodes-all}
 use Rattle.runs.proofs.Determined.{lists-unique}
 use Rattle.nodes.specs.Calls as calls
 
@@ -62,22 +63,25 @@ nodes-unique allowed k rows x numbers others L M =
     rising-unique 0 0 numbers others (L .rising) (M .rising) (λ i h. M .complete i (L .sound i h)) (λ i h. L .complete i (M .sound i h))
 
 -- the numbers of the nodes, for any list of the runs
-numbers-same : (w : List ℕ) (x : ℕ) (rows : List Record) (numbers : List ℕ) → Lists w rows → ListsNodes anyPeriod turns rows x numbers → numbers ≡ nodesAt anyPeriod turns w x
-numbers-same w x rows numbers L N =
-    nodes-unique anyPeriod turns (runsOf w) x numbers (nodesAt anyPeriod turns w x)
-    (subst (λ (rs : List Record). ListsNodes anyPeriod turns rs x numbers) (lists-unique w rows (runsOf w) L (runs-listed w)) N)
-    (listed-nodes w x)
+numbers-same : (w : List ℕ) (edition x : ℕ) (rows : List Record) (numbers : List ℕ) → Lists w rows → ListsNodes anyPeriod (turnsOf edition) rows x numbers
+    → numbers ≡ nodesAt anyPeriod (turnsOf edition) w x
+numbers-same w edition x rows numbers L N =
+    nodes-unique anyPeriod (turnsOf edition) (runsOf w) x numbers (nodesAt anyPeriod (turnsOf edition) w x)
+    (subst (λ (rs : List Record). ListsNodes anyPeriod (turnsOf edition) rs x numbers) (lists-unique w rows (runsOf w) L (runs-listed w)) N)
+    (listed-nodes w edition x)
 
--- CLAIM: the nodes call's answer and table are the only ones that mean what document 01 says
-pub nodes-determined : (w : List ℕ) (x : ℕ) (t : List ℕ) (o : Outcome) (u : List ℕ) → NodesMeaning w x t o u → (o ≡ nodesOutcome w x (length t)) × (u ≡ nodesTable w x t)
-nodes-determined w x t o u (calls.NodesMeaning.too-long h e f) = let g = nodes-too-long w x t h in (e ∙ g .0, f ∙ g .1)
-nodes-determined w x t o u (calls.NodesMeaning.outside h k e f) = let g = nodes-outside w x t h k in (e ∙ g .0, f ∙ g .1)
-nodes-determined w x t o u (calls.NodesMeaning.too-few h k rows L numbers N l e f) =
-    let g = nodes-few w x t h k (subst (λ (ns : List ℕ). length t < length ns) (numbers-same w x rows numbers L N) l) in
+-- CLAIM: the nodes call's answer and table are the only ones that mean what the documents say
+pub nodes-determined : (w : List ℕ) (edition x : ℕ) (t : List ℕ) (o : Outcome) (u : List ℕ) → NodesMeaning w edition x t o u
+    → (o ≡ nodesOutcome w edition x (length t)) × (u ≡ nodesTable w edition x t)
+nodes-determined w edition x t o u (calls.NodesMeaning.too-long h e f) = let g = nodes-too-long w edition x t h in (e ∙ g .0, f ∙ g .1)
+nodes-determined w edition x t o u (calls.NodesMeaning.bad-edition h i e f) = let g = nodes-bad-edition w edition x t h i in (e ∙ g .0, f ∙ g .1)
+nodes-determined w edition x t o u (calls.NodesMeaning.outside h i k e f) = let g = nodes-outside w edition x t h i k in (e ∙ g .0, f ∙ g .1)
+nodes-determined w edition x t o u (calls.NodesMeaning.too-few h i k rows L numbers N l e f) =
+    let g = nodes-few w edition x t h i k (subst (λ (ns : List ℕ). length t < length ns) (numbers-same w edition x rows numbers L N) l) in
     (e ∙ g .0, f ∙ g .1)
-nodes-determined w x t o u (calls.NodesMeaning.listed h k rows L numbers N l e f) =
-    let q = numbers-same w x rows numbers L N in
-    let g = nodes-all w x t h k (subst (λ (ns : List ℕ). length ns ≤ length t) q l) in (
+nodes-determined w edition x t o u (calls.NodesMeaning.listed h i k rows L numbers N l e f) =
+    let q = numbers-same w edition x rows numbers L N in
+    let g = nodes-all w edition x t h i k (subst (λ (ns : List ℕ). length ns ≤ length t) q l) in (
       e ∙ ap (λ (ns : List ℕ). accepted (length ns ∷ [])) q ∙ g .0,
       f ∙ ap (λ (ns : List ℕ). ns ++ drop (length ns) t) q ∙ g .1,
     )

@@ -8,14 +8,14 @@ use mathlib.Core.List.{List, [], _∷_, _++_, append-assoc, append-nil, List·Me
 use Prim.Native.Nat.{ℕ, zero, suc, _+_, _-_, _*_, _≤_, _<_}
 use native.Mathlib.Omega.{arith}
 use native.Mathlib.Numerals.{add-one}
-use native.Mathlib.Nat.{zero-add, add-zero}
+use native.Mathlib.Nat.{zero-add, add-zero, mul-le-mul-right}
 use borrow.Author.Tests.{le-leb, lt-leb}
 use lib.Dec.{T, leb, leb→le, le→leb}
 use lib.ListN.{length, length-append}
 use lib.Seq.{sets}
 use Rattle.laws.proofs.Tests.{and-intro, and-left, and-right}
 use Rattle.laws.proofs.Stores.{sets-append}
-use Rattle.periods.specs.Period.{anyPeriod, turns}
+use Rattle.periods.specs.Period.{anyPeriod}
 use Rattle.periods.proofs.Claims.{part-smallest}
 use Rattle.runs.specs.declared.Record.{Record}
 use Rattle.runs.specs.Run.{Entry}
@@ -148,66 +148,66 @@ module _ (allowed : ℕ → Bool) (k : ℕ) (rows : List Record) (x : ℕ) where
 
 -- ---- the test, in the order of the code
 
-pub node-early : (x : ℕ) (r : Record) → x + 1 < r .first + turns * r .period → false ≡ node? anyPeriod turns x r
-node-early x r h = rw (lt-leb (r .first + turns * r .period) (x + 1) h) refl
+pub node-early : (k x : ℕ) (r : Record) → x + 1 < r .first + k * r .period → false ≡ node? anyPeriod k x r
+node-early k x r h = rw (lt-leb (r .first + k * r .period) (x + 1) h) refl
 
-pub node-reached : (x : ℕ) (r : Record) → r .first + turns * r .period ≤ x + 1 → leb x (r .last) ≡ node? anyPeriod turns x r
-node-reached x r h = rw (le-leb (r .first + turns * r .period) (x + 1) h) (sym (and-true (leb x (r .last))))
+pub node-reached : (k x : ℕ) (r : Record) → r .first + k * r .period ≤ x + 1 → leb x (r .last) ≡ node? anyPeriod k x r
+node-reached k x r h = rw (le-leb (r .first + k * r .period) (x + 1) h) (sym (and-true (leb x (r .last))))
 
 -- ---- one more boundary
 
-module _ (w : List ℕ) (x : ℕ) where
+module _ (k : ℕ) (w : List ℕ) (x : ℕ) where
   -- the numbers of the nodes of the runs after the boundaries below a
   abbrev pub nodesBefore : ℕ → List ℕ
-  nodesBefore a = numbersWhere (node? anyPeriod turns x) 0 (rowsBefore w a)
+  nodesBefore a = numbersWhere (node? anyPeriod k x) 0 (rowsBefore w a)
 
-  pub nodes-more : (a : ℕ) → nodesBefore (a + 1) ≡ nodesBefore a ++ numbersWhere (node? anyPeriod turns x) (length (rowsBefore w a)) (rowsAt w a (length w - a))
+  pub nodes-more : (a : ℕ) → nodesBefore (a + 1) ≡ nodesBefore a ++ numbersWhere (node? anyPeriod k x) (length (rowsBefore w a)) (rowsAt w a (length w - a))
   nodes-more a =
-      ap (numbersWhere (node? anyPeriod turns x) 0) (before-more w a)
-      ∙ numbers-append (node? anyPeriod turns x) 0 (rowsBefore w a) (rowsAt w a (length w - a))
+      ap (numbersWhere (node? anyPeriod k x) 0) (before-more w a)
+      ∙ numbers-append (node? anyPeriod k x) 0 (rowsBefore w a) (rowsAt w a (length w - a))
       ∙ rw (zero-add (length (rowsBefore w a))) refl
 
   -- the numbers that were picked among the records of boundary a stand behind those of the boundaries below it
   pub nodes-step : (rows : List Record) (out u v : List ℕ) (a number found next : ℕ) → number ≡ length (rowsBefore w a) → found ≡ length (nodesBefore a)
-      → u ≡ sets out 0 (nodesBefore a) → rows ≡ rowsAt w a (length w - a) → next ≡ found + length (numbersWhere (node? anyPeriod turns x) number rows)
-      → v ≡ sets u found (numbersWhere (node? anyPeriod turns x) number rows)
+      → u ≡ sets out 0 (nodesBefore a) → rows ≡ rowsAt w a (length w - a) → next ≡ found + length (numbersWhere (node? anyPeriod k x) number rows)
+      → v ≡ sets u found (numbersWhere (node? anyPeriod k x) number rows)
       → (next ≡ length (nodesBefore (a + 1))) × (v ≡ sets out 0 (nodesBefore (a + 1)))
-  nodes-step rows out u v a number found next n f k r e s = (
+  nodes-step rows out u v a number found next n f i r e s = (
     e ∙ rw (f, n, r) (sym (ap length (nodes-more a) ∙ length-append (nodesBefore a) more)),
-    s ∙ rw (k, f, n, r) (sym (ap (sets out 0) (nodes-more a) ∙ sets-append out 0 (nodesBefore a) more ∙ ap (λ (i : ℕ). sets (sets out 0 (nodesBefore a)) i more) (zero-add (length (nodesBefore a))))),
+    s ∙ rw (i, f, n, r) (sym (ap (sets out 0) (nodes-more a) ∙ sets-append out 0 (nodesBefore a) more ∙ ap (λ (j : ℕ). sets (sets out 0 (nodesBefore a)) j more) (zero-add (length (nodesBefore a))))),
   )
     where
       more : List ℕ
-      more = numbersWhere (node? anyPeriod turns x) (length (rowsBefore w a)) (rowsAt w a (length w - a))
+      more = numbersWhere (node? anyPeriod k x) (length (rowsBefore w a)) (rowsAt w a (length w - a))
 
   -- a run that starts after position x has no node there
-  late-none : (a i : ℕ) → x ≤ a → numbersWhere (node? anyPeriod turns x) i (rowsAt w a (length w - a)) ≡ []
-  late-none a i h = numbers-none (node? anyPeriod turns x) i (rowsAt w a (length w - a)) (λ j r k. late j r k)
+  late-none : 2 ≤ k → (a i : ℕ) → x ≤ a → numbersWhere (node? anyPeriod k x) i (rowsAt w a (length w - a)) ≡ []
+  late-none two a i h = numbers-none (node? anyPeriod k x) i (rowsAt w a (length w - a)) (λ j r l. late j r l)
     where
-      late : (j : ℕ) (r : Record) → Entry (rowsAt w a (length w - a)) j r → node? anyPeriod turns x r ≡ false
-      late j r k =
-          let X = at-sound w a (length w - a) j r k in
+      late : (j : ℕ) (r : Record) → Entry (rowsAt w a (length w - a)) j r → node? anyPeriod k x r ≡ false
+      late j r l =
+          let X = at-sound w a (length w - a) j r l in
           let P = part-smallest w a (X .end) (omega (arith, X .upto, X .after)) (X .after) in
-          sym (node-early x r (omega (arith, ap (λ (z : Record). z .first) (X .row .is), ap (λ (z : Record). z .period) (X .row .is), P .period .positive)))
+          sym (node-early k x r (omega (arith, ap (λ (z : Record). z .first) (X .row .is), ap (λ (z : Record). z .period) (X .row .is), P .period .positive, mul-le-mul-right (r .period) two)))
 
-  nodes-late : (d : ℕ) → nodesBefore (x + d) ≡ nodesBefore x
-  nodes-late zero = ap nodesBefore (add-zero x)
-  nodes-late (suc d) =
+  nodes-late : 2 ≤ k → (d : ℕ) → nodesBefore (x + d) ≡ nodesBefore x
+  nodes-late two zero = ap nodesBefore (add-zero x)
+  nodes-late two (suc d) =
       let e : x + suc d ≡ x + d + 1 = omega arith in
-      rw e (nodes-more (x + d) ∙ rw (late-none (x + d) (length (rowsBefore w (x + d))) (omega arith)) (append-nil (nodesBefore (x + d))) ∙ nodes-late d)
+      rw e (nodes-more (x + d) ∙ rw (late-none two (x + d) (length (rowsBefore w (x + d))) (omega arith)) (append-nil (nodesBefore (x + d))) ∙ nodes-late two d)
 
   -- so the boundaries below x are enough
-  pub nodes-enough : x ≤ length w → nodesBefore x ≡ nodesAt anyPeriod turns w x
+  pub nodes-enough : 2 ≤ k → x ≤ length w → nodesBefore x ≡ nodesAt anyPeriod k w x
   unfolding nodesAt runsOf
-  nodes-enough h = let e : x + (length w - x) ≡ length w = omega arith in sym (nodes-late (length w - x)) ∙ ap nodesBefore e
+  nodes-enough two h = let e : x + (length w - x) ≡ length w = omega arith in sym (nodes-late two (length w - x)) ∙ ap nodesBefore e
 
 -- there are no more nodes at a position than runs
-pub nodes-at-most : (w : List ℕ) (x : ℕ) → length (nodesAt anyPeriod turns w x) ≤ length (runsOf w)
+pub nodes-at-most : (k : ℕ) (w : List ℕ) (x : ℕ) → length (nodesAt anyPeriod k w x) ≤ length (runsOf w)
 unfolding nodesAt
-nodes-at-most w x = numbers-at-most (node? anyPeriod turns x) 0 (runsOf w)
+nodes-at-most k w x = numbers-at-most (node? anyPeriod k x) 0 (runsOf w)
 
-pub nodes-before-none : (w : List ℕ) (x : ℕ) → nodesBefore w x 0 ≡ []
-nodes-before-none w x = ap (numbersWhere (node? anyPeriod turns x) 0) (before-none w)
+pub nodes-before-none : (k : ℕ) (w : List ℕ) (x : ℕ) → nodesBefore k w x 0 ≡ []
+nodes-before-none k w x = ap (numbersWhere (node? anyPeriod k x) 0) (before-none w)
 
 pub rows-left-none : (w t : List ℕ) → rowsLeft w 0 t ≡ t
 unfolding rowsLeft

@@ -11,15 +11,18 @@ use answers::Refusal;
 use runs::STRIDE;
 
 // The nodes call: writes the numbers of the runs with a white node at a position from 1, rising,
-// and gives their count. Refusals: 1, 6, 7. Time: quadratic in the word's length at most; 65 KiB of
-// stack.
-pub fn nodes(w: &[u8], position: u32, table: &mut [u32]) -> Counted
-    ensures answer { λ r. ⌜ countedView r ≡ nodesOutcome (now (w .entry)) position (length (now (table .entry))) ⌝ }
-    ensures written { λ r. ⌜ now (table .exit) ≡ nodesTable (now (w .entry)) position (now (table .entry)) ⌝ }
-    ensures meaning { λ r. ⌜ NodesMeaning (now (w .entry)) position (now (table .entry)) (countedView r) (now (table .exit)) ⌝ }
+// and gives their count. Refusals: 1, 12, 6, 7. Time: quadratic in the word's length at most; 65 KiB
+// of stack.
+pub fn nodes(w: &[u8], edition: u32, position: u32, table: &mut [u32]) -> Counted
+    ensures answer { λ r. ⌜ countedView r ≡ nodesOutcome (now (w .entry)) edition position (length (now (table .entry))) ⌝ }
+    ensures written { λ r. ⌜ now (table .exit) ≡ nodesTable (now (w .entry)) edition position (now (table .entry)) ⌝ }
+    ensures meaning { λ r. ⌜ NodesMeaning (now (w .entry)) edition position (now (table .entry)) (countedView r) (now (table .exit)) ⌝ }
 {
     if answers::LIMIT < w.len() {
         return Counted::Refused(Refusal::TooLong);
+    }
+    if periods::bad_edition(edition) {
+        return Counted::Refused(Refusal::BadEdition);
     }
     if position < 1 {
         return Counted::Refused(Refusal::BadPosition);
@@ -28,13 +31,14 @@ pub fn nodes(w: &[u8], position: u32, table: &mut [u32]) -> Counted
     if w.len() < x {
         return Counted::Refused(Refusal::BadPosition);
     }
+    let turns = periods::turns(edition);
     let mut units = [0u32; answers::LIMIT];
     let mut rows = [0u32; STRIDE * answers::LIMIT];
     let zero: usize = 0;
-    let count = inner::nodes_at(w, x, &mut units, &mut rows, &mut table[zero..zero]);
+    let count = inner::nodes_at(w, turns, x, &mut units, &mut rows, &mut table[zero..zero]);
     if table.len() < count {
         return Counted::Refused(Refusal::TooFewPlaces);
     }
-    inner::nodes_at(w, x, &mut units, &mut rows, table);
+    inner::nodes_at(w, turns, x, &mut units, &mut rows, table);
     Counted::Count(count as u32)
 }

@@ -6,7 +6,9 @@ use Prim.Native.Nat.{ℕ, _≤_}
 use native.Mathlib.Omega.{arith}
 use lib.ListN.{length, drop}
 use Rattle.answers.specs.Outcome.{Outcome, accepted, refused, limit}
-use Rattle.periods.specs.Period.{anyPeriod, turns}
+use Rattle.periods.specs.Period.{anyPeriod}
+use Rattle.periods.specs.Edition.{Edition, turnsOf}
+use Rattle.periods.proofs.Editions.{two-turns}
 use Rattle.factors.specs.Factorization.{Factorization}
 use Rattle.factors.proofs.VerdictClaims.{verdict-means, meaning-determines, accepted-factorization}
 use Rattle.repetitions.specs.Block.{Block, block?}
@@ -14,48 +16,53 @@ use Rattle.paths.specs.Graph.{Node, black, Path, GoTogether, encoding, r
 use Rattle.repetitions.specs.Judge.{splitOutcome}
 use Rattle.paths.specs.Calls.{runNumbers, pathOutcome, pathTable, PathMeaning, numberGiven, segment?, pathJudgedOutcome, PathJudgedMeaning}
 use Rattle.repetitions.proofs.Blocks.{block-sound, block-complete, block-up}
-use Rattle.paths.proofs.Paths.{word-one-to-one}
+use Rattle.paths.proofs.Paths.{edition-one-to-one}
 use Rattle.repetitions.proofs.JudgeClaims.{split-judged}
 use Rattle.paths.proofs.PathClaims.{numbers-path, PathPromised, path-promised-refused, path-promised-few, path-promised-numbered}
-use Rattle.paths.proofs.PathJudgeClaims.{decides, path-too-long, path-odd, path-judged}
+use Rattle.paths.proofs.PathJudgeClaims.{decides, path-too-long, path-bad-edition, path-odd, path-judged}
 use Rattle.repetitions.proofs.Determined.{split-determined}
 use Rattle.paths.specs.Calls as calls
 
 -- ---- path of a split
 
-factorization-accepted : (w ends : List ℕ) → length w ≤ limit → Factorization (Block anyPeriod turns w) (length w) ends → accepted (length ends ∷ []) ≡ splitOutcome w ends
-factorization-accepted w ends h F =
-    sym (accepted-factorization (block? anyPeriod turns w) (Block anyPeriod turns w) (block-sound anyPeriod turns w) (block-complete anyPeriod turns w) (length w) (block-up anyPeriod turns w) ends .1 F)
-    ∙ split-judged w ends h
+factorization-accepted : (w : List ℕ) (edition : ℕ) (ends : List ℕ) → length w ≤ limit → Edition edition → Factorization (Block anyPeriod (turnsOf edition) w) (length w) ends
+    → accepted (length ends ∷ []) ≡ splitOutcome w edition ends
+factorization-accepted w edition ends h i F =
+    let k = turnsOf edition in
+    sym (accepted-factorization (block? anyPeriod k w) (Block anyPeriod k w) (block-sound anyPeriod k w) (block-complete anyPeriod k w) (length w) (block-up anyPeriod k w) ends .1 F)
+    ∙ split-judged w edition ends h i
 
 -- the run numbers of a path that goes with the split
-path-numbers : (w ends : List ℕ) → Factorization (Block anyPeriod turns w) (length w) ends → (xs : List Node) → Path anyPeriod turns w (length w) xs → GoTogether xs ends
-    → runsOfPairs (encoding (black 0) xs) ≡ runNumbers w 0 ends
-path-numbers w ends F xs v g =
-    let p = numbers-path w ends F in
-    ap (λ (ys : List Node). runsOfPairs (encoding (black 0) ys)) (word-one-to-one w (length w) (omega arith) .one-path xs (p .0) v (p .1) (g ∙ sym (p .2))) ∙ p .3
+path-numbers : (w : List ℕ) (edition : ℕ) (ends : List ℕ) → Factorization (Block anyPeriod (turnsOf edition) w) (length w) ends
+    → (xs : List Node) → Path anyPeriod (turnsOf edition) w (length w) xs → GoTogether xs ends → runsOfPairs (encoding (black 0) xs) ≡ runNumbers w 0 ends
+path-numbers w edition ends F xs v g =
+    let p = numbers-path (turnsOf edition) (two-turns edition) w ends F in
+    ap (λ (ys : List Node). runsOfPairs (encoding (black 0) ys)) (edition-one-to-one edition w (length w) (omega arith) .one-path xs (p .0) v (p .1) (g ∙ sym (p .2))) ∙ p .3
 
 -- CLAIM: the meaning of path of a split determines the answer and the table
-pub path-determined : (w ends t : List ℕ) (o : Outcome) (u : List ℕ) → PathMeaning w ends t o u → (o ≡ pathOutcome w ends (length t)) × (u ≡ pathTable w ends t)
-path-determined w ends t o u M = go M
+pub path-determined : (w : List ℕ) (edition : ℕ) (ends t : List ℕ) (o : Outcome) (u : List ℕ) → PathMeaning w edition ends t o u
+    → (o ≡ pathOutcome w edition ends (length t)) × (u ≡ pathTable w edition ends t)
+path-determined w edition ends t o u M = go M
   where
-    by : {p : Outcome} {v : List ℕ} → o ≡ p → u ≡ v → PathPromised w ends t p v → (o ≡ pathOutcome w ends (length t)) × (u ≡ pathTable w ends t)
+    by : {p : Outcome} {v : List ℕ} → o ≡ p → u ≡ v → PathPromised w edition ends t p v → (o ≡ pathOutcome w edition ends (length t)) × (u ≡ pathTable w edition ends t)
     by a b P = (a ∙ P .answer, b ∙ P .table)
 
-    go : PathMeaning w ends t o u → (o ≡ pathOutcome w ends (length t)) × (u ≡ pathTable w ends t)
-    go (calls.PathMeaning.refused-split x i S a b) = by a b (path-promised-refused w ends t x i (split-determined w ends (refused x i) S))
-    go (calls.PathMeaning.too-few h F k a b) = by a b (path-promised-few w ends t (length ends ∷ []) (factorization-accepted w ends h F) k)
-    go (calls.PathMeaning.numbered h F k xs v g a b) =
-        by a (b ∙ ap (λ (l : List ℕ). l ++ drop (length ends) t) (path-numbers w ends F xs v g))
-        (path-promised-numbered w ends t (length ends ∷ []) (factorization-accepted w ends h F) k)
+    go : PathMeaning w edition ends t o u → (o ≡ pathOutcome w edition ends (length t)) × (u ≡ pathTable w edition ends t)
+    go (calls.PathMeaning.refused-split x i S a b) = by a b (path-promised-refused w edition ends t x i (split-determined w edition ends (refused x i) S))
+    go (calls.PathMeaning.too-few h i F k a b) = by a b (path-promised-few w edition ends t (length ends ∷ []) (factorization-accepted w edition ends h i F) k)
+    go (calls.PathMeaning.numbered h i F k xs v g a b) =
+        by a (b ∙ ap (λ (l : List ℕ). l ++ drop (length ends) t) (path-numbers w edition ends F xs v g))
+        (path-promised-numbered w edition ends t (length ends ∷ []) (factorization-accepted w edition ends h i F) k)
 
 -- ---- judge a path
 
 -- CLAIM: the meaning of judge a path determines the answer
-pub path-judged-determined : (w ns : List ℕ) (o : Outcome) → PathJudgedMeaning w ns o → o ≡ pathJudgedOutcome w ns
-path-judged-determined w ns o (calls.PathJudgedMeaning.too-long h e) = e ∙ path-too-long w ns h
-path-judged-determined w ns o (calls.PathJudgedMeaning.odd h q e) = e ∙ path-odd w ns h q
-path-judged-determined w ns o (calls.PathJudgedMeaning.judged h q J) =
-    meaning-determines (λ m i j. Segment anyPeriod turns w (numberGiven ns m) i j) (length w) (endsOfPairs ns) (J .verdict-on)
-    (verdict-means (segment? anyPeriod turns w ns) (λ m i j. Segment anyPeriod turns w (numberGiven ns m) i j) (λ m i j. decides w ns m i j .0) (λ m i j. decides w ns m i j .1) (length w) (endsOfPairs ns))
-    ∙ path-judged w ns h (λ z. omega arith)
+pub path-judged-determined : (w : List ℕ) (edition : ℕ) (ns : List ℕ) (o : Outcome) → PathJudgedMeaning w edition ns o → o ≡ pathJudgedOutcome w edition ns
+path-judged-determined w edition ns o (calls.PathJudgedMeaning.too-long h e) = e ∙ path-too-long w edition ns h
+path-judged-determined w edition ns o (calls.PathJudgedMeaning.bad-edition h i e) = e ∙ path-bad-edition w edition ns h i
+path-judged-determined w edition ns o (calls.PathJudgedMeaning.odd h i q e) = e ∙ path-odd w edition ns h i q
+path-judged-determined w edition ns o (calls.PathJudgedMeaning.judged h i q J) =
+    let k = turnsOf edition in
+    meaning-determines (λ m i j. Segment anyPeriod k w (numberGiven ns m) i j) (length w) (endsOfPairs ns) (J .verdict-on)
+    (verdict-means (segment? anyPeriod k w ns) (λ m i j. Segment anyPeriod k w (numberGiven ns m) i j) (λ m i j. decides k w ns m i j .0) (λ m i j. decides k w ns m i j .1) (length w) (endsOfPairs ns))
+    ∙ path-judged w edition ns h i (λ z. omega arith)

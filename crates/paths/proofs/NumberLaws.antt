@@ -1,5 +1,6 @@
 -- What the loops of path of a split go by: `leftEnd` goes on to the left one symbol at a time and ends where the block's run starts, so the look-up by that
--- boundary and the block's unit gives its run number; the loop keeps `Numbering`. Assumes nothing.
+-- boundary and the block's unit gives its run number; the loop keeps `Numbering`. Two turns are
+-- enough for a block to have its run. Assumes nothing.
 use mathlib.Core.Path.{_≡_, refl, sym, ap, _∙_, subst}
 use mathlib.Core.Logic.{_≢_}
 use mathlib.Core.List.{List, _∷_, _++_, head-eq-of-cons-eq, tail-eq-of-cons-eq}
@@ -10,7 +11,7 @@ use native.Mathlib.Numerals.{add-one}
 use borrow.Author.Tests.{eq-eqb, ne-eqb}
 use lib.ListN.{length, getD, set, take, drop, length-append, length-take, length-drop}
 use lib.Seq.{take-all, drop-cons, paste-suc}
-use Rattle.periods.specs.Period.{part, smallestPeriod, anyPeriod, turns}
+use Rattle.periods.specs.Period.{part, smallestPeriod, anyPeriod}
 use Rattle.periods.proofs.InPlace.{symbol}
 use Rattle.periods.proofs.Claims.{part-smallest}
 use Rattle.paths.specs.LookUp.{numberOf}
@@ -46,24 +47,24 @@ module _ (w : List ℕ) (p : ℕ) where
 
 -- ---- the look-up of a block's run
 
-module _ (w : List ℕ) (i j p : ℕ) (K : Block anyPeriod turns w i j) (e : p ≡ smallestPeriod (part w i j)) where
+module _ (w : List ℕ) (i j p : ℕ) (K : Block anyPeriod 2 w i j) (e : p ≡ smallestPeriod (part w i j)) where
   -- a block is as long as its unit
   pub unit-fits : i + p ≤ j
-  unit-fits = omega (arith, e, part-smallest w i j (K .0) (block-up anyPeriod turns w i j K) .period .fits)
+  unit-fits = omega (arith, e, part-smallest w i j (K .0) (block-up anyPeriod 2 w i j K) .period .fits)
 
   pub left-end-inside : leftEnd w p i < length w
-  left-end-inside = omega (arith, left-end-is w p i .low, block-up anyPeriod turns w i j K, K .0)
+  left-end-inside = omega (arith, left-end-is w p i .low, block-up anyPeriod 2 w i j K, K .0)
 
   -- CLAIM: the look-up by the left end and the unit gives the number of the block's run
   pub block-looked-up : numberOf w (leftEnd w p i) p ≡ runNumber w i j
   block-looked-up =
       ap (λ (a : ℕ). numberOf w a p) starts ∙ ap (numberOf w (S .run .first - 1)) (sym unit) ∙ number-of-complete w (runNumber w i j) (S .run) (S .numbered)
     where
-      S : Segment anyPeriod turns w (runNumber w i j) i j
-      S = run-number-segment w i j K
+      S : Segment anyPeriod 2 w (runNumber w i j) i j
+      S = run-number-segment 2 (omega arith) w i j K
 
       unit : S .run .period ≡ p
-      unit = segment-period anyPeriod turns w (omega arith) (runNumber w i j) i j S ∙ sym e
+      unit = segment-period anyPeriod 2 w (omega arith) (runNumber w i j) i j S ∙ sym e
 
       R : RunIn (symbol w) (length w) (S .run .first - 1) (S .run .last) p
       R =
@@ -82,12 +83,12 @@ written-more t ns k h l = rw (add-one k) (rw (zero-add k, zero-add (suc k)) at (
 -- k blocks are numbered, up to boundary `before`: the others join up to the word, and the numbers of the first k stand in the table u, which was t
 pub record Numbering (w ends t : List ℕ) (before k : ℕ) (u : List ℕ) : Type 0 where
   pub within : k ≤ length ends
-  pub chain : Chain (Block anyPeriod turns w) before (drop k ends) (length w)
+  pub chain : Chain (Block anyPeriod 2 w) before (drop k ends) (length w)
   pub left : drop k (runNumbers w 0 ends) ≡ runNumbers w before (drop k ends)
   pub written : u ≡ take k (runNumbers w 0 ends) ++ drop k t
 
 module _ (w ends t : List ℕ) where
-  pub numbering-starts : Factorization (Block anyPeriod turns w) (length w) ends → Numbering w ends t 0 0 t
+  pub numbering-starts : Factorization (Block anyPeriod 2 w) (length w) ends → Numbering w ends t 0 0 t
   numbering-starts h = record { within = omega arith; chain = h; left = refl; written = refl }
 
   module _ (before k : ℕ) (u : List ℕ) (N : Numbering w ends t before k u) where
@@ -96,11 +97,11 @@ module _ (w ends t : List ℕ) where
         omega (arith, ap length (N .written), length-append (take k (runNumbers w 0 ends)) (drop k t), length-take k (runNumbers w 0 ends), length-run-numbers w 0 ends, length-drop k t, N .within)
 
     module _ (l : k < length ends) where
-      next : Block anyPeriod turns w before (getD ends k 0) × Chain (Block anyPeriod turns w) (getD ends k 0) (drop (suc k) ends) (length w)
-      next = subst (λ (es : List ℕ). Chain (Block anyPeriod turns w) before es (length w)) (drop-cons ends k 0 l) (N .chain)
+      next : Block anyPeriod 2 w before (getD ends k 0) × Chain (Block anyPeriod 2 w) (getD ends k 0) (drop (suc k) ends) (length w)
+      next = subst (λ (es : List ℕ). Chain (Block anyPeriod 2 w) before es (length w)) (drop-cons ends k 0 l) (N .chain)
 
       -- the next piece is a block
-      pub numbering-block : Block anyPeriod turns w before (getD ends k 0)
+      pub numbering-block : Block anyPeriod 2 w before (getD ends k 0)
       numbering-block = next .0
 
       numbers : getD (runNumbers w 0 ends) k 0 ∷ drop (suc k) (runNumbers w 0 ends) ≡ runNumber w before (getD ends k 0) ∷ runNumbers w (getD ends k 0) (drop (suc k) ends)

@@ -4,7 +4,7 @@ use mathlib.Core.Path.{_≡_, refl, sym, ap, _∙_, subst}
 use mathlib.Core.Logic.{_≢_}
 use mathlib.Core.Bool.{cond, _&&_}
 use mathlib.Core.List.{List, [], _∷_, _++_}
-use Prim.Native.Nat.{ℕ, zero, suc, _+_, _-_, _≤_, _<_}
+use Prim.Native.Nat.{ℕ, zero, suc, _+_, _-_, _*_, _≤_, _<_}
 use native.Mathlib.Omega.{arith}
 use native.Mathlib.Decide.{decLt, ℕ-discrete}
 use borrow.Author.Tests.{lt-ltb, le-ltb, eq-eqb, ne-eqb}
@@ -13,7 +13,9 @@ use lib.ListN.{length, drop}
 use Rattle.laws.proofs.Tests.{and-intro, and-left, and-right}
 use Rattle.answers.proofs.Claims.{refused-accepted}
 use Rattle.answers.specs.Outcome.{Outcome, accepted, refused, limit, tableUnless}
-use Rattle.periods.specs.Period.{part, smallestPeriod, anyPeriod, turns}
+use Rattle.periods.specs.Period.{part, smallestPeriod, anyPeriod}
+use Rattle.periods.specs.Edition.{Edition, turnsOf}
+use Rattle.periods.proofs.Editions.{two-turns}
 use Rattle.periods.proofs.InPlace.{symbol}
 use Rattle.runs.specs.Table.{runsOf}
 use Rattle.runs.proofs.InPlace.{RunIn}
@@ -21,7 +23,7 @@ use Rattle.factors.specs.Factorization.{Chain, Factorization}
 use Rattle.factors.specs.Verdict.{VerdictMeaning, bad-end, no-block, unfinished, fine}
 use Rattle.repetitions.specs.Block.{Block}
 use Rattle.paths.specs.Graph.{Node, black, Path, GoTogether, encoding, runsOfPairs, endsOfPairs, Segment, Segments}
-use Rattle.repetitions.specs.Judge.{splitOutcome, SplitMeaning, too-long, judged}
+use Rattle.repetitions.specs.Judge.{splitOutcome, SplitMeaning, too-long, bad-edition, judged}
 use Rattle.paths.specs.Calls.{runNumbers, pathOutcome, pathTable, PathMeaning, refused-split, too-few, numbered}
 use Rattle.runs.specs.Number.{encloses?, firstNumber, runNumber}
 use Rattle.paths.specs.Walk.{leftEnd}
@@ -29,29 +31,28 @@ use Rattle.paths.proofs.Encodings.{encodes, encoding-ends, block-segmen
 use Rattle.repetitions.proofs.JudgeClaims.{split-means}
 use Rattle.runs.proofs.Number.{Passes, first-none, first-sound}
 
-two : 2 ≤ turns
-two = omega arith
+-- ---- the number of the run of a block, which has k turns, two at least
 
--- ---- the number of the run of a block
-
-module _ (w : List ℕ) (i j : ℕ) where
+module _ (k : ℕ) (two : 2 ≤ k) (w : List ℕ) (i j : ℕ) where
   -- a run that encloses a block and has its unit
-  enclosing-segment : Block anyPeriod turns w i j → (r : ℕ) → Passes (encloses? i j (smallestPeriod (part w i j))) (runsOf w) r → Segment anyPeriod turns w r i j
+  enclosing-segment : Block anyPeriod k w i j → (r : ℕ) → Passes (encloses? i j (smallestPeriod (part w i j))) (runsOf w) r → Segment anyPeriod k w r i j
   enclosing-segment K r P =
       let p = smallestPeriod (part w i j) in
       let s = P .row in
       let rest = and-right (leb (s .first) (i + 1)) (leb j (s .last) && eqb (s .period) p) (P .passed) in
-      let S = block-segment anyPeriod turns w two i j K .1 in
+      let S = block-segment anyPeriod k w two i j K .1 in
       record {
         run = s;
         numbered = P .entry;
         starts = leb→le (s .first) (i + 1) (and-left (leb (s .first) (i + 1)) (leb j (s .last) && eqb (s .period) p) (P .passed));
         ends = leb→le j (s .last) (and-left (leb j (s .last)) (eqb (s .period) p) rest);
-        long = omega (arith, eqb→eq (s .period) p (and-right (leb j (s .last)) (eqb (s .period) p) rest), S .long, segment-period anyPeriod turns w two _ i j S);
+        long =
+            subst (λ (q : ℕ). i + k * q ≤ j) (segment-period anyPeriod k w two _ i j S ∙ sym (eqb→eq (s .period) p (and-right (leb j (s .last)) (eqb (s .period) p) rest)))
+            (S .long);
         permitted = tt;
       }
 
-  segment-encloses : (r : ℕ) → Segment anyPeriod turns w r i j → Passes (encloses? i j (smallestPeriod (part w i j))) (runsOf w) r
+  segment-encloses : (r : ℕ) → Segment anyPeriod k w r i j → Passes (encloses? i j (smallestPeriod (part w i j))) (runsOf w) r
   segment-encloses r S =
       let p = smallestPeriod (part w i j) in
       record {
@@ -60,22 +61,22 @@ module _ (w : List ℕ) (i j : ℕ) where
         passed =
             and-intro (leb (S .run .first) (i + 1)) (leb j (S .run .last) && eqb (S .run .period) p) (le→leb (S .run .first) (i + 1) (S .starts))
             (and-intro (leb j (S .run .last)) (eqb (S .run .period) p) (le→leb j (S .run .last) (S .ends))
-            (subst (λ (x : ℕ). T (eqb (S .run .period) x)) (segment-period anyPeriod turns w two r i j S) (eqb-refl (S .run .period))));
+            (subst (λ (x : ℕ). T (eqb (S .run .period) x)) (segment-period anyPeriod k w two r i j S) (eqb-refl (S .run .period))));
       }
 
   -- CLAIM: the number is that of the one run that encloses the block and has its unit
-  pub run-number-segment : Block anyPeriod turns w i j → Segment anyPeriod turns w (runNumber w i j) i j
+  pub run-number-segment : Block anyPeriod k w i j → Segment anyPeriod k w (runNumber w i j) i j
   unfolding runNumber
   run-number-segment K = go (firstNumber (encloses? i j (smallestPeriod (part w i j))) (runsOf w)) refl
     where
-      go : (m : ℕ) → firstNumber (encloses? i j (smallestPeriod (part w i j))) (runsOf w) ≡ m → Segment anyPeriod turns w m i j
+      go : (m : ℕ) → firstNumber (encloses? i j (smallestPeriod (part w i j))) (runsOf w) ≡ m → Segment anyPeriod k w m i j
       go zero e =
-          let s = block-segment anyPeriod turns w two i j K in
+          let s = block-segment anyPeriod k w two i j K in
           absurd (first-none (encloses? i j (smallestPeriod (part w i j))) (runsOf w) e (s .0) (segment-encloses (s .0) (s .1)))
       go (suc m) e = enclosing-segment K (suc m) (first-sound (encloses? i j (smallestPeriod (part w i j))) (runsOf w) m e)
 
-  pub run-number-unique : Block anyPeriod turns w i j → (r : ℕ) → Segment anyPeriod turns w r i j → runNumber w i j ≡ r
-  run-number-unique K r S = segment-one-number anyPeriod turns w two (runNumber w i j) r i j (run-number-segment K) S
+  pub run-number-unique : Block anyPeriod k w i j → (r : ℕ) → Segment anyPeriod k w r i j → runNumber w i j ≡ r
+  run-number-unique K r S = segment-one-number anyPeriod k w two (runNumber w i j) r i j (run-number-segment K) S
 
 -- the run numbers and the ends, one after the other
 pairs : List ℕ → List ℕ → List ℕ
@@ -84,20 +85,20 @@ pairs (r ∷ rs) [] = []
 pairs (r ∷ rs) (e ∷ es) = r ∷ e ∷ pairs rs es
 
 -- those of a factorization encode a path
-numbers-segments : (w : List ℕ) (es : List ℕ) (i : ℕ) → Chain (Block anyPeriod turns w) i es (length w)
-    → Segments anyPeriod turns w i (pairs (runNumbers w i es) es) (length w) × (runsOfPairs (pairs (runNumbers w i es) es) ≡ runNumbers w i es) × (endsOfPairs (pairs (runNumbers w i es) es) ≡ es)
+numbers-segments : (k : ℕ) → 2 ≤ k → (w : List ℕ) (es : List ℕ) (i : ℕ) → Chain (Block anyPeriod k w) i es (length w)
+    → Segments anyPeriod k w i (pairs (runNumbers w i es) es) (length w) × (runsOfPairs (pairs (runNumbers w i es) es) ≡ runNumbers w i es) × (endsOfPairs (pairs (runNumbers w i es) es) ≡ es)
 unfolding pairs runNumbers
-numbers-segments w [] i h = (h, refl, refl)
-numbers-segments w (e ∷ es) i h =
-    let r = numbers-segments w es e (h .1) in
-    ((run-number-segment w i e (h .0), r .0), ap (λ (x : List ℕ). runNumber w i e ∷ x) (r .1), ap (λ (x : List ℕ). e ∷ x) (r .2))
+numbers-segments k two w [] i h = (h, refl, refl)
+numbers-segments k two w (e ∷ es) i h =
+    let r = numbers-segments k two w es e (h .1) in
+    ((run-number-segment k two w i e (h .0), r .0), ap (λ (x : List ℕ). runNumber w i e ∷ x) (r .1), ap (λ (x : List ℕ). e ∷ x) (r .2))
 
 -- CLAIM: the run numbers are those of the one path that goes with the split
-pub numbers-path : (w ends : List ℕ) → Factorization (Block anyPeriod turns w) (length w) ends
-    → (xs : List Node) × Path anyPeriod turns w (length w) xs × GoTogether xs ends × (runsOfPairs (encoding (black 0) xs) ≡ runNumbers w 0 ends)
-numbers-path w ends h =
-    let s = numbers-segments w ends 0 h in
-    let p = encodes anyPeriod turns w (length w) (pairs (runNumbers w 0 ends) ends) (s .0) in
+pub numbers-path : (k : ℕ) → 2 ≤ k → (w ends : List ℕ) → Factorization (Block anyPeriod k w) (length w) ends
+    → (xs : List Node) × Path anyPeriod k w (length w) xs × GoTogether xs ends × (runsOfPairs (encoding (black 0) xs) ≡ runNumbers w 0 ends)
+numbers-path k two w ends h =
+    let s = numbers-segments k two w ends 0 h in
+    let p = encodes anyPeriod k w (length w) (pairs (runNumbers w 0 ends) ends) (s .0) in
     (p .0, p .1, sym (encoding-ends (black 0) (p .0)) ∙ ap endsOfPairs (p .2) ∙ s .2, ap runsOfPairs (p .2) ∙ s .1)
 
 pub length-run-numbers : (w : List ℕ) (i : ℕ) (ends : List ℕ) → length (runNumbers w i ends) ≡ length ends
@@ -107,69 +108,70 @@ length-run-numbers w i (e ∷ es) = ap suc (length-run-numbers w e es)
 
 -- ---- path of a split
 
-path-refused : (w ends t : List ℕ) (x i : ℕ) → splitOutcome w ends ≡ refused x i → (refused x i ≡ pathOutcome w ends (length t)) × (t ≡ pathTable w ends t)
+path-refused : (w : List ℕ) (edition : ℕ) (ends t : List ℕ) (x i : ℕ) → splitOutcome w edition ends ≡ refused x i → (refused x i ≡ pathOutcome w edition ends (length t)) × (t ≡ pathTable w edition ends t)
 unfolding pathOutcome pathTable
-path-refused w ends t x i e = (rw e refl, rw e refl)
+path-refused w edition ends t x i e = (rw e refl, rw e refl)
 
-path-accepts : (w ends t : List ℕ) (v : List ℕ) → splitOutcome w ends ≡ accepted v
-    → (cond (ltb (length t) (length ends)) (refused 7 0) (accepted (length ends ∷ [])) ≡ pathOutcome w ends (length t))
-    × (tableUnless (cond (ltb (length t) (length ends)) (refused 7 0) (accepted (length ends ∷ []))) t (runNumbers w 0 ends ++ drop (length ends) t) ≡ pathTable w ends t)
+path-accepts : (w : List ℕ) (edition : ℕ) (ends t : List ℕ) (v : List ℕ) → splitOutcome w edition ends ≡ accepted v
+    → (cond (ltb (length t) (length ends)) (refused 7 0) (accepted (length ends ∷ [])) ≡ pathOutcome w edition ends (length t))
+    × (tableUnless (cond (ltb (length t) (length ends)) (refused 7 0) (accepted (length ends ∷ []))) t (runNumbers w 0 ends ++ drop (length ends) t) ≡ pathTable w edition ends t)
 unfolding pathOutcome pathTable
-path-accepts w ends t v e = (rw e refl, rw e refl)
+path-accepts w edition ends t v e = (rw e refl, rw e refl)
 
 -- what the call promises
-pub record PathPromised (w ends t : List ℕ) (o : Outcome) (u : List ℕ) : Type 0 where
-  pub answer : o ≡ pathOutcome w ends (length t)
-  pub table : u ≡ pathTable w ends t
+pub record PathPromised (w : List ℕ) (edition : ℕ) (ends t : List ℕ) (o : Outcome) (u : List ℕ) : Type 0 where
+  pub answer : o ≡ pathOutcome w edition ends (length t)
+  pub table : u ≡ pathTable w edition ends t
 
-module _ (w ends t : List ℕ) where
-  pub path-promised-refused : (x i : ℕ) → refused x i ≡ splitOutcome w ends → PathPromised w ends t (refused x i) t
-  path-promised-refused x i e = let p = path-refused w ends t x i (sym e) in record { answer = p .0; table = p .1 }
+module _ (w : List ℕ) (edition : ℕ) (ends t : List ℕ) where
+  pub path-promised-refused : (x i : ℕ) → refused x i ≡ splitOutcome w edition ends → PathPromised w edition ends t (refused x i) t
+  path-promised-refused x i e = let p = path-refused w edition ends t x i (sym e) in record { answer = p .0; table = p .1 }
 
-  pub path-promised-few : (v : List ℕ) → accepted v ≡ splitOutcome w ends → length t < length ends → PathPromised w ends t (refused 7 0) t
-  path-promised-few v e h = let p = path-accepts w ends t v (sym e) in record { answer = rw (lt-ltb (length t) (length ends) h) at (p .0); table = rw (lt-ltb (length t) (length ends) h) at (p .1) }
+  pub path-promised-few : (v : List ℕ) → accepted v ≡ splitOutcome w edition ends → length t < length ends → PathPromised w edition ends t (refused 7 0) t
+  path-promised-few v e h = let p = path-accepts w edition ends t v (sym e) in record { answer = rw (lt-ltb (length t) (length ends) h) at (p .0); table = rw (lt-ltb (length t) (length ends) h) at (p .1) }
 
-  pub path-promised-numbered : (v : List ℕ) → accepted v ≡ splitOutcome w ends → length ends ≤ length t
-      → PathPromised w ends t (accepted (length ends ∷ [])) (runNumbers w 0 ends ++ drop (length ends) t)
-  path-promised-numbered v e h = let p = path-accepts w ends t v (sym e) in record { answer = rw (le-ltb (length t) (length ends) h) at (p .0); table = rw (le-ltb (length t) (length ends) h) at (p .1) }
+  pub path-promised-numbered : (v : List ℕ) → accepted v ≡ splitOutcome w edition ends → length ends ≤ length t
+      → PathPromised w edition ends t (accepted (length ends ∷ [])) (runNumbers w 0 ends ++ drop (length ends) t)
+  path-promised-numbered v e h = let p = path-accepts w edition ends t v (sym e) in record { answer = rw (le-ltb (length t) (length ends) h) at (p .0); table = rw (le-ltb (length t) (length ends) h) at (p .1) }
 
   -- an accepted split is a factorization, with its number of blocks
-  pub accepted-split : (v : List ℕ) → accepted v ≡ splitOutcome w ends → (length w ≤ limit) × (v ≡ length ends ∷ []) × Factorization (Block anyPeriod turns w) (length w) ends
-  accepted-split v e = go (split-means w ends)
+  pub accepted-split : (v : List ℕ) → accepted v ≡ splitOutcome w edition ends → (length w ≤ limit) × (v ≡ length ends ∷ []) × Edition edition × Factorization (Block anyPeriod (turnsOf edition) w) (length w) ends
+  accepted-split v e = go (split-means w edition ends)
     where
-      clash : (x i : ℕ) → splitOutcome w ends ≡ refused x i → ⊥
-      clash x i f = refused-accepted (splitOutcome w ends) x i v f (sym e)
+      clash : (x i : ℕ) → splitOutcome w edition ends ≡ refused x i → ⊥
+      clash x i f = refused-accepted (splitOutcome w edition ends) x i v f (sym e)
 
-      go : SplitMeaning w ends (splitOutcome w ends) → (length w ≤ limit) × (v ≡ length ends ∷ []) × Factorization (Block anyPeriod turns w) (length w) ends
+      go : SplitMeaning w edition ends (splitOutcome w edition ends) → (length w ≤ limit) × (v ≡ length ends ∷ []) × Edition edition × Factorization (Block anyPeriod (turnsOf edition) w) (length w) ends
       go (too-long h f) = absurd (clash 1 0 f)
-      go (judged h J) = by (J .verdict-on)
+      go (bad-edition h i f) = absurd (clash 12 0 f)
+      go (judged h i J) = by (J .verdict-on)
         where
-          by : VerdictMeaning (λ k. Block anyPeriod turns w) (length w) ends (splitOutcome w ends) → (length w ≤ limit) × (v ≡ length ends ∷ []) × Factorization (Block anyPeriod turns w) (length w) ends
+          by : VerdictMeaning (λ k. Block anyPeriod (turnsOf edition) w) (length w) ends (splitOutcome w edition ends) → (length w ≤ limit) × (v ≡ length ends ∷ []) × Edition edition × Factorization (Block anyPeriod (turnsOf edition) w) (length w) ends
           by (bad-end k a b d f g) = absurd (clash 3 k g)
           by (no-block k a b d f g x) = absurd (clash 4 k x)
           by (unfinished a b f) = absurd (clash 5 0 f)
-          by (fine a b f) = let q : v ≡ length ends ∷ [] = cc in (h, q, J .accepts .0 f)
+          by (fine a b f) = let q : v ≡ length ends ∷ [] = cc in (h, q, i, J .accepts .0 f)
 
-  -- CLAIM: path of a split says what document 01 asks
-  pub path-means : PathMeaning w ends t (pathOutcome w ends (length t)) (pathTable w ends t)
-  path-means = go (splitOutcome w ends) refl
+  -- CLAIM: path of a split says what the documents ask
+  pub path-means : PathMeaning w edition ends t (pathOutcome w edition ends (length t)) (pathTable w edition ends t)
+  path-means = go (splitOutcome w edition ends) refl
     where
-      by : {o : Outcome} {u : List ℕ} → PathPromised w ends t o u → PathMeaning w ends t o u → PathMeaning w ends t (pathOutcome w ends (length t)) (pathTable w ends t)
+      by : {o : Outcome} {u : List ℕ} → PathPromised w edition ends t o u → PathMeaning w edition ends t o u → PathMeaning w edition ends t (pathOutcome w edition ends (length t)) (pathTable w edition ends t)
       by P M = rw (← P .answer, ← P .table) M
 
-      go : (o : Outcome) → o ≡ splitOutcome w ends → PathMeaning w ends t (pathOutcome w ends (length t)) (pathTable w ends t)
-      go (refused x i) e = by (path-promised-refused x i e) (refused-split x i (subst (SplitMeaning w ends) (sym e) (split-means w ends)) refl refl)
+      go : (o : Outcome) → o ≡ splitOutcome w edition ends → PathMeaning w edition ends t (pathOutcome w edition ends (length t)) (pathTable w edition ends t)
+      go (refused x i) e = by (path-promised-refused x i e) (refused-split x i (subst (SplitMeaning w edition ends) (sym e) (split-means w edition ends)) refl refl)
       go (accepted v) e = room (decLt (length t) (length ends)) (accepted-split v e)
         where
-          room : Dec (length t < length ends) → (length w ≤ limit) × (v ≡ length ends ∷ []) × Factorization (Block anyPeriod turns w) (length w) ends
-              → PathMeaning w ends t (pathOutcome w ends (length t)) (pathTable w ends t)
-          room (yes h) A = by (path-promised-few v e h) (too-few (A .0) (A .2) h refl refl)
+          room : Dec (length t < length ends) → (length w ≤ limit) × (v ≡ length ends ∷ []) × Edition edition × Factorization (Block anyPeriod (turnsOf edition) w) (length w) ends
+              → PathMeaning w edition ends t (pathOutcome w edition ends (length t)) (pathTable w edition ends t)
+          room (yes h) A = by (path-promised-few v e h) (too-few (A .0) (A .2) (A .3) h refl refl)
           room (no h) A =
-              let p = numbers-path w ends (A .2) in
+              let p = numbers-path (turnsOf edition) (two-turns edition) w ends (A .3) in
               by (path-promised-numbered v e (omega arith))
-              (numbered (A .0) (A .2) (omega arith) (p .0) (p .1) (p .2) refl (ap (λ (x : List ℕ). x ++ drop (length ends) t) (sym (p .3))))
+              (numbered (A .0) (A .2) (A .3) (omega arith) (p .0) (p .1) (p .2) refl (ap (λ (x : List ℕ). x ++ drop (length ends) t) (sym (p .3))))
 
-  pub path-answered : (o : Outcome) (u : List ℕ) → PathPromised w ends t o u → (o ≡ pathOutcome w ends (length t)) × ((u ≡ pathTable w ends t) × PathMeaning w ends t o u)
+  pub path-answered : (o : Outcome) (u : List ℕ) → PathPromised w edition ends t o u → (o ≡ pathOutcome w edition ends (length t)) × ((u ≡ pathTable w edition ends t) × PathMeaning w edition ends t o u)
   path-answered o u P = (P .answer, (P .table, rw (P .answer, P .table) path-means))
 
 -- ---- the left end of a block's run

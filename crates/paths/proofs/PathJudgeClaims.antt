@@ -14,7 +14,10 @@ use lib.ListN.{length, getD}
 use Rattle.laws.proofs.Tests.{T-true, and-intro, and-left, and-right}
 use Rattle.answers.proofs.Claims.{refused-accepted}
 use Rattle.answers.specs.Outcome.{Outcome, accepted, refused, limit}
-use Rattle.periods.specs.Period.{anyPeriod, turns}
+use Rattle.periods.specs.Period.{anyPeriod}
+use Rattle.periods.specs.Edition.{Edition, turnsOf}
+use Rattle.periods.proofs.Editions.{two-turns, good-edition, edition?}
+use Rattle.periods.proofs.Editions as editions
 use Rattle.runs.specs.declared.Record.{Record}
 use Rattle.runs.specs.Run.{Entry}
 use Rattle.runs.specs.Table.{runsOf}
@@ -23,7 +26,7 @@ use Rattle.paths.proofs.LookUps.{entry-of}
 use Rattle.factors.specs.Verdict.{verdict, verdictFrom}
 use Rattle.factors.proofs.VerdictClaims.{verdict-means, verdict-low, verdict-high, verdict-block, verdict-no-block, verdict-finished, verdict-unfinished}
 use Rattle.paths.specs.Graph.{Node, black, Path, encoding, runsOfPairs, endsOfPairs, Segment, Segments}
-use Rattle.paths.specs.Calls.{inRun?, numberGiven, segment?, pathJudgedOutcome, PathJudged, PathJudgedMeaning, too-long, odd, judged}
+use Rattle.paths.specs.Calls.{inRun?, numberGiven, segment?, pathJudgedOutcome, PathJudged, PathJudgedMeaning, too-long, bad-edition, odd, judged}
 use Rattle.repetitions.proofs.Blocks.{block-up}
 use Rattle.paths.proofs.Encodings.{encoded, encodes, segment-within, segment-block}
 
@@ -86,7 +89,7 @@ module _ (allowed : ℕ → Bool) (k : ℕ) (w : List ℕ) (r i j : ℕ) where
   segment-decides = (in-run-sound (entryOf (runsOf w) r) refl, in-run-complete)
 
 -- the test, one comparison at a time
-module _ (r : Record) (i j : ℕ) where
+module _ (turns : ℕ) (r : Record) (i j : ℕ) where
   pub run-starts-later : i + 1 < r .first → false ≡ inRun? anyPeriod turns (r ∷ []) i j
   run-starts-later h = simp (lt-leb (r .first) (i + 1) h)
 
@@ -97,16 +100,16 @@ module _ (r : Record) (i j : ℕ) where
   run-encloses l h = rw (le-leb (r .first) (i + 1) l, le-leb j (r .last) h) (sym (and-true (leb (i + turns * r .period) j)))
 
 -- the test of block number k + 1, from the run that was looked up
-pub segment-test : (w ns : List ℕ) (k i j : ℕ) (rows : List Record) → k + k + 1 < length ns → rows ≡ entryOf (runsOf w) (getD ns (k + k) 0)
+pub segment-test : (turns : ℕ) (w ns : List ℕ) (k i j : ℕ) (rows : List Record) → k + k + 1 < length ns → rows ≡ entryOf (runsOf w) (getD ns (k + k) 0)
     → segment? anyPeriod turns w ns (suc k) i j ≡ inRun? anyPeriod turns rows i j
-segment-test w ns k i j rows h e =
+segment-test turns w ns k i j rows h e =
     let f : suc k - 1 ≡ k = omega arith in
     ap (λ (m : ℕ). inRun? anyPeriod turns (entryOf (runsOf w) (getD (runsOfPairs ns) m 0)) i j) f
     ∙ ap (λ (m : ℕ). inRun? anyPeriod turns (entryOf (runsOf w) m) i j) (run-given ns k h) ∙ ap (λ (s : List Record). inRun? anyPeriod turns s i j) (sym e)
 
 -- ---- accepted exactly when the numbers are segments
 
-module _ (w : List ℕ) (t : ℕ → ℕ → ℕ → Bool) where
+module _ (turns : ℕ) (two : 2 ≤ turns) (w : List ℕ) (t : ℕ → ℕ → ℕ → Bool) where
   -- from block number k + 1 on the test goes by the run numbers of ns
   abbrev Agrees : ℕ → List ℕ → Type 0
   Agrees k ns = (m i j : ℕ) → (T (t (suc (k + m)) i j) ↔ Segment anyPeriod turns w (getD (runsOfPairs ns) m 0) i j)
@@ -148,58 +151,68 @@ module _ (w : List ℕ) (t : ℕ → ℕ → ℕ → Bool) where
   segments-accepted [] k i A s = verdict-finished t (length w) k i s ∙ ap (λ (x : ℕ). accepted (x ∷ [])) (omega arith)
   segments-accepted (r ∷ []) k i A s = absurd s
   segments-accepted (r ∷ e ∷ ns) k i A s =
-      verdict-block t (length w) k i e (endsOfPairs ns) (block-up anyPeriod turns w i e (segment-block anyPeriod turns w (omega arith) r i e (s .0)))
+      verdict-block t (length w) k i e (endsOfPairs ns) (block-up anyPeriod turns w i e (segment-block anyPeriod turns w two r i e (s .0)))
       (segment-within anyPeriod turns w r i e (s .0)) (T-true (t (suc k) i e) (agrees-first k r e ns A i e .1 (s .0)))
       ∙ segments-accepted ns (suc k) e (agrees-rest k r e ns A) (s .1) ∙ ap (λ (x : ℕ). accepted (x ∷ [])) (omega arith)
 
-module _ (w ns : List ℕ) where
+module _ (turns : ℕ) (w ns : List ℕ) where
   pub decides : (m i j : ℕ) → (T (segment? anyPeriod turns w ns m i j) ↔ Segment anyPeriod turns w (numberGiven ns m) i j)
   decides m i j = segment-decides anyPeriod turns w (numberGiven ns m) i j
 
-  agrees : Agrees w (segment? anyPeriod turns w ns) 0 ns
-  agrees m i j =
+  agrees : (two : 2 ≤ turns) → Agrees turns two w (segment? anyPeriod turns w ns) 0 ns
+  agrees two m i j =
       let z : suc (0 + m) - 1 ≡ m = omega arith in
       subst (λ (x : ℕ). T (segment? anyPeriod turns w ns (suc (0 + m)) i j) ↔ Segment anyPeriod turns w (getD (runsOfPairs ns) x 0) i j) z (decides (suc (0 + m)) i j)
 
   -- CLAIM: accepted with the number of blocks, exactly when the numbers encode a path of the word's length
-  pub path-accepted : length ns % 2 ≡ 0
+  pub path-accepted : 2 ≤ turns → length ns % 2 ≡ 0
       → ((verdict (segment? anyPeriod turns w ns) (length w) (endsOfPairs ns) ≡ accepted (length ns / 2 ∷ []))
       ↔ ((xs : List Node) × Path anyPeriod turns w (length w) xs × (encoding (black 0) xs ≡ ns)))
   unfolding verdict
-  path-accepted q = (
-    (λ h. encodes anyPeriod turns w (length w) ns (accepted-segments w (segment? anyPeriod turns w ns) ns 0 0 (length ns / 2 ∷ []) q agrees h)),
+  path-accepted two q = (
+    (λ h. encodes anyPeriod turns w (length w) ns (accepted-segments turns two w (segment? anyPeriod turns w ns) ns 0 0 (length ns / 2 ∷ []) q (agrees two) h)),
     (λ p.
-        segments-accepted w (segment? anyPeriod turns w ns) ns 0 0 agrees
+        segments-accepted turns two w (segment? anyPeriod turns w ns) ns 0 0 (agrees two)
         (subst (λ (ms : List ℕ). Segments anyPeriod turns w 0 ms (length w)) (p .2) (encoded anyPeriod turns w (length w) (p .0) (p .1)))
         ∙ ap (λ (x : ℕ). accepted (x ∷ [])) (omega (arith, length-ends-of-pairs ns))),
   )
 
-  pub path-too-long : limit < length w → refused 1 0 ≡ pathJudgedOutcome w ns
+module _ (w : List ℕ) (edition : ℕ) (ns : List ℕ) where
+  pub path-too-long : limit < length w → refused 1 0 ≡ pathJudgedOutcome w edition ns
   unfolding pathJudgedOutcome
   path-too-long h = simp (lt-ltb limit (length w) h)
 
-  pub path-odd : length w ≤ limit → length ns % 2 ≡ 1 → refused 10 0 ≡ pathJudgedOutcome w ns
+  pub path-bad-edition : length w ≤ limit → (Edition edition → ⊥) → refused 12 0 ≡ pathJudgedOutcome w edition ns
   unfolding pathJudgedOutcome
-  path-odd h q = simp (le-ltb limit (length w) h, eq-eqb (length ns % 2) 1 q)
+  path-bad-edition h i = simp (le-ltb limit (length w) h, editions.bad-edition edition i)
 
-  pub path-judged : length w ≤ limit → (length ns % 2 ≡ 1 → ⊥) → verdict (segment? anyPeriod turns w ns) (length w) (endsOfPairs ns) ≡ pathJudgedOutcome w ns
+  pub path-odd : length w ≤ limit → Edition edition → length ns % 2 ≡ 1 → refused 10 0 ≡ pathJudgedOutcome w edition ns
   unfolding pathJudgedOutcome
-  path-judged h q = simp (le-ltb limit (length w) h, ne-eqb (length ns % 2) 1 q)
+  path-odd h i q = simp (le-ltb limit (length w) h, good-edition edition i, eq-eqb (length ns % 2) 1 q)
 
-  -- CLAIM: judge a path says what document 01 asks
-  pub path-judged-means : PathJudgedMeaning w ns (pathJudgedOutcome w ns)
-  path-judged-means = go (decLt limit (length w)) (ℕ-discrete (length ns % 2) 1)
+  pub path-judged : length w ≤ limit → Edition edition → (length ns % 2 ≡ 1 → ⊥)
+      → verdict (segment? anyPeriod (turnsOf edition) w ns) (length w) (endsOfPairs ns) ≡ pathJudgedOutcome w edition ns
+  unfolding pathJudgedOutcome
+  path-judged h i q = simp (le-ltb limit (length w) h, good-edition edition i, ne-eqb (length ns % 2) 1 q)
+
+  -- CLAIM: judge a path says what the documents ask
+  pub path-judged-means : PathJudgedMeaning w edition ns (pathJudgedOutcome w edition ns)
+  path-judged-means = go (decLt limit (length w)) (edition? edition) (ℕ-discrete (length ns % 2) 1)
     where
-      go : Dec (limit < length w) → Dec (length ns % 2 ≡ 1) → PathJudgedMeaning w ns (pathJudgedOutcome w ns)
-      go (yes h) d = too-long h (sym (path-too-long h))
-      go (no h) (yes q) = odd (omega arith) q (sym (path-odd (omega arith) q))
-      go (no h) (no q) =
-          judged (omega arith) (omega arith)
-          (subst (PathJudged w ns) (path-judged (omega arith) q)
+      k : ℕ
+      k = turnsOf edition
+
+      go : Dec (limit < length w) → Dec (Edition edition) → Dec (length ns % 2 ≡ 1) → PathJudgedMeaning w edition ns (pathJudgedOutcome w edition ns)
+      go (yes h) i d = too-long h (sym (path-too-long h))
+      go (no h) (no i) d = bad-edition (omega arith) i (sym (path-bad-edition (omega arith) i))
+      go (no h) (yes i) (yes q) = odd (omega arith) i q (sym (path-odd (omega arith) i q))
+      go (no h) (yes i) (no q) =
+          judged (omega arith) i (omega arith)
+          (subst (PathJudged k w ns) (path-judged (omega arith) i q)
           record {
-            verdict-on = verdict-means (segment? anyPeriod turns w ns) (λ m i j. Segment anyPeriod turns w (numberGiven ns m) i j) (λ m i j. decides m i j .0) (λ m i j. decides m i j .1) (length w) (endsOfPairs ns);
-            accepts = path-accepted (omega arith);
+            verdict-on = verdict-means (segment? anyPeriod k w ns) (λ m i j. Segment anyPeriod k w (numberGiven ns m) i j) (λ m i j. decides k w ns m i j .0) (λ m i j. decides k w ns m i j .1) (length w) (endsOfPairs ns);
+            accepts = path-accepted k w ns (two-turns edition) (omega arith);
           })
 
-  pub path-judged-answered : (o : Outcome) → o ≡ pathJudgedOutcome w ns → (o ≡ pathJudgedOutcome w ns) × PathJudgedMeaning w ns o
-  path-judged-answered o e = (e, subst (PathJudgedMeaning w ns) (sym e) path-judged-means)
+  pub path-judged-answered : (o : Outcome) → o ≡ pathJudgedOutcome w edition ns → (o ≡ pathJudgedOutcome w edition ns) × PathJudgedMeaning w edition ns o
+  path-judged-answered o e = (e, subst (PathJudgedMeaning w edition ns) (sym e) path-judged-means)

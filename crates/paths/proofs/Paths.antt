@@ -7,7 +7,9 @@ use mathlib.Core.List.{List, [], _∷_}
 use Prim.Native.Nat.{ℕ, _+_, _≤_, _<_}
 use native.Mathlib.Omega.{arith}
 use lib.ListN.{length, take}
-use Rattle.periods.specs.Period.{anyPeriod, turns}
+use Rattle.periods.specs.Period.{anyPeriod}
+use Rattle.periods.specs.Edition.{turnsOf}
+use Rattle.periods.proofs.Editions.{two-turns}
 use Rattle.factors.specs.Factorization.{Factorization}
 use Rattle.repetitions.specs.Block.{Block}
 use Rattle.paths.specs.Graph.{Node, black, white, Exists, Walk, Path, total, drops, encoding, GoTogether, endsOfPairs, Segments}
@@ -79,6 +81,7 @@ module _ (allowed : ℕ → Bool) (k : ℕ) (w : List ℕ) where
       weighs = λ xs v. walk-weighs t xs .0 0 v;
     }
 
--- CLAIM: the instance for document 01's graph, in which a block has two turns and any period
-pub word-one-to-one : (w : List ℕ) (t : ℕ) → t ≤ length w → OneToOne anyPeriod turns w t
-word-one-to-one w t h = one-to-one anyPeriod turns w (omega arith) t h
+-- CLAIM: the instance for the graph of an edition, in which a block has that edition's turns and any period. turnsOf 1 is 2 and turnsOf 2 is 3; it holds for
+-- any other number too, of which no call makes use
+pub edition-one-to-one : (edition : ℕ) (w : List ℕ) (t : ℕ) → t ≤ length w → OneToOne anyPeriod (turnsOf edition) w t
+edition-one-to-one edition w t h = one-to-one anyPeriod (turnsOf edition) w (two-turns edition) t h

@@ -1,4 +1,4 @@
--- The repetition graph of a word (source document 001, section 3.1), for any turn number k for 2 and only the allowed periods; its paths.
+-- The repetition graph of a word (source document 001, section 3.1), for any turn number k and only the allowed periods; its paths.
 use mathlib.Core.Path.{_≡_}
 use mathlib.Core.Bool.{Bool}
 use mathlib.Core.List.{List, [], _∷_}
@@ -20,7 +20,7 @@ abbrev pub Exists : (ℕ → Bool) → ℕ → List ℕ → Node → Type 0
 Exists allowed k w (black j) = j ≤ length w
 Exists allowed k w (white i x) = White allowed k (runsOf w) i x
 
--- "A diagonal edge of weight 1 goes from joint j to the white node of run i at j+2×unit, where there is one."
+-- "A diagonal edge of weight 1 goes from joint j to the white node of run i at j+2×unit, where there is one", and in edition 2 it "spans 3 × unit".
 pub record Diagonal (k : ℕ) (w : List ℕ) (j i x : ℕ) : Type 0 where
   pub run : Record
   pub numbered : Entry (runsOf w) i run
@@ -90,8 +90,8 @@ GoTogether xs ends = drops (black 0) xs ≡ ends
 
 -- ---- a block and its run
 
--- "no run has that number, or the run does not enclose the piece, or the piece is shorter than 2 × the run's unit" is refusal 4 for a path; this is the
--- contrary. The piece goes from boundary i to boundary j.
+-- "no run has that number, or the run does not enclose the piece, or the piece is shorter than 2 × the run's unit" is refusal 4 for a path, which in edition
+-- 2 "measures by 3 × unit"; this is the contrary. The piece goes from boundary i to boundary j.
 pub record Segment (allowed : ℕ → Bool) (k : ℕ) (w : List ℕ) (number i j : ℕ) : Type 0 where
   pub run : Record
   pub numbered : Entry (runsOf w) number run

@@ -7,7 +7,8 @@ ghost use Prim.Native.Nat.{_≤_, _<_, _+_, _-_, _*_, _%_};
 ghost use lib.ListN.{length, getD, drop};
 ghost use lib.Seq.{sets};
 ghost use Rattle.answers.specs.Outcome.{countedView, limit};
-ghost use Rattle.periods.specs.Period.{anyPeriod, turns};
+ghost use Rattle.periods.specs.Period.{anyPeriod};
+ghost use Rattle.periods.specs.Edition.{Turns};
 ghost use Rattle.factors.specs.Factorization.{Factorization};
 ghost use Rattle.factors.specs.Verdict.{verdict};
 ghost use Rattle.runs.specs.Table.{rowsAt, runsOf, stride, flat, records};
@@ -132,9 +133,10 @@ fn left_end(w: &[u8], i: usize, p: usize) -> usize
     a
 }
 
-// Writes the run number of each block of a factorization.
+// Writes the run number of each block of a factorization. Two turns are enough for a block to have a
+// run, in any edition.
 pub(crate) fn number_blocks(w: &[u8], ends: &[u32], table: &mut [u32])
-    requires { ⌜ (length (now w) ≤ limit) × Factorization (Block anyPeriod turns (now w)) (length (now w)) (now ends) × (length (now ends) ≤ length (now table)) ⌝ }
+    requires { ⌜ (length (now w) ≤ limit) × Factorization (Block anyPeriod 2 (now w)) (length (now w)) (now ends) × (length (now ends) ≤ length (now table)) ⌝ }
     ensures { λ _. ⌜ now (table .exit) ≡ runNumbers (now (w .entry)) 0 (now (ends .entry)) ++ drop (length (now (ends .entry))) (now (table .entry)) ⌝ }
 {
     let mut counted = [0u32; answers::LIMIT + 1];
@@ -154,8 +156,8 @@ pub(crate) fn number_blocks(w: &[u8], ends: &[u32], table: &mut [u32])
 }
 
 // Whether the piece between two boundaries lies in the run that was found, and is long enough for it.
-fn lies_in(found: Found, i: usize, j: usize) -> bool
-    requires { ⌜ (i ≤ limit) × (j ≤ limit) ⌝ }
+fn lies_in(found: Found, turns: usize, i: usize, j: usize) -> bool
+    requires { ⌜ (i ≤ limit) × (j ≤ limit) × Turns turns ⌝ }
     ensures { λ r. ⌜ r ≡ inRun? anyPeriod turns (foundView found) i j ⌝ }
 {
     match found {
@@ -167,15 +169,15 @@ fn lies_in(found: Found, i: usize, j: usize) -> bool
             if (r.last as usize) < j {
                 return false;
             }
-            i + periods::TURNS * (r.period as usize) <= j
+            i + turns * (r.period as usize) <= j
         }
     }
 }
 
 // The verdict on a path with an even count of numbers. Each run is worked out from the symbols, never
 // believed.
-pub(crate) fn follow(w: &[u8], numbers: &[u32]) -> Counted
-    requires { ⌜ (length (now w) ≤ limit) × (length (now numbers) % 2 ≡ 0) ⌝ }
+pub(crate) fn follow(w: &[u8], turns: usize, numbers: &[u32]) -> Counted
+    requires { ⌜ (length (now w) ≤ limit) × (length (now numbers) % 2 ≡ 0) × Turns turns ⌝ }
     ensures { λ r. ⌜ countedView r ≡ verdict (segment? anyPeriod turns (now (w .entry)) (now (numbers .entry))) (length (now (w .entry))) (endsOfPairs (now (numbers .entry))) ⌝ }
 {
     let n = w.len();
@@ -193,7 +195,7 @@ pub(crate) fn follow(w: &[u8], numbers: &[u32]) -> Counted
             return Counted::Refused(Refusal::BadEnd(number));
         }
         let found = run_with(w, &counted, run, &mut units, &mut rows);
-        if !lies_in(found, before, end) {
+        if !lies_in(found, turns, before, end) {
             return Counted::Refused(Refusal::NotRepetition(number));
         }
         before = end;

@@ -1,4 +1,4 @@
--- Document 01's examples of the definitions that the contracts of this crate cite, computed. Assumes nothing.
+-- The documents' examples of the definitions that the contracts of this crate cite, computed. Assumes nothing.
 use mathlib.Core.Path.{_≡_, refl}
 use mathlib.Core.Bool.{true, false}
 use mathlib.Core.List.{List, [], _∷_, _++_}
@@ -6,49 +6,77 @@ use Prim.Native.Nat.{ℕ}
 use lib.ListN.{replicate}
 use Rattle.answers.specs.Outcome.{accepted, refused}
 use Rattle.periods.specs.Period.{smallestPeriod, repetition?, prefixPeriods, anyPeriod}
+use Rattle.periods.specs.Edition.{badEdition?, turnsOf}
 use Rattle.periods.specs.Part.{partOutcome, description}
-use Rattle.periods.proofs.Words.{word-aabaabaa, word-ababa}
+use Rattle.periods.proofs.Words.{word-aaa, word-aaaaa, word-aabaabaa, word-ababa}
 
 -- "ababa * | 5 (unit 2, turns 2, rest 1)"
-pub part-of-ababa : partOutcome word-ababa 1 5 ≡ accepted (2 ∷ 2 ∷ 1 ∷ 1 ∷ [])
-unfolding partOutcome description repetition? smallestPeriod
+pub part-of-ababa : partOutcome word-ababa 1 1 5 ≡ accepted (2 ∷ 2 ∷ 1 ∷ 1 ∷ [])
+unfolding partOutcome description repetition? smallestPeriod badEdition? turnsOf
 part-of-ababa = refl
 
 -- the block of the printed text: "block,1,1,8,3,2,2,2"
-pub part-of-aabaabaa : partOutcome word-aabaabaa 1 8 ≡ accepted (3 ∷ 2 ∷ 2 ∷ 1 ∷ [])
-unfolding partOutcome description repetition? smallestPeriod
+pub part-of-aabaabaa : partOutcome word-aabaabaa 1 1 8 ≡ accepted (3 ∷ 2 ∷ 2 ∷ 1 ∷ [])
+unfolding partOutcome description repetition? smallestPeriod badEdition? turnsOf
 part-of-aabaabaa = refl
 
 -- the single symbol has a period, itself, and is no block
-pub part-of-one : partOutcome word-ababa 2 2 ≡ accepted (1 ∷ 1 ∷ 0 ∷ 0 ∷ [])
-unfolding partOutcome description repetition? smallestPeriod
+pub part-of-one : partOutcome word-ababa 1 2 2 ≡ accepted (1 ∷ 1 ∷ 0 ∷ 0 ∷ [])
+unfolding partOutcome description repetition? smallestPeriod badEdition? turnsOf
 part-of-one = refl
 
--- "6: first below 1, last above n or first above last"
-pub part-first-zero : partOutcome word-ababa 0 5 ≡ refused 6 0
+-- "In edition 2 a block has length ≥ 3 × unit": ababa has two turns, aaaaa five; unit, turns and rest stay
+pub part-of-ababa-in-2 : partOutcome word-ababa 2 1 5 ≡ accepted (2 ∷ 2 ∷ 1 ∷ 0 ∷ [])
+unfolding partOutcome description repetition? smallestPeriod badEdition? turnsOf
+part-of-ababa-in-2 = refl
+
+pub part-of-aaaaa-in-2 : partOutcome word-aaaaa 2 1 5 ≡ accepted (1 ∷ 5 ∷ 0 ∷ 1 ∷ [])
+unfolding partOutcome description repetition? smallestPeriod badEdition? turnsOf
+part-of-aaaaa-in-2 = refl
+
+-- exactly three turns are enough
+pub part-of-aaa-in-2 : partOutcome word-aaa 2 1 3 ≡ accepted (1 ∷ 3 ∷ 0 ∷ 1 ∷ [])
+unfolding partOutcome description repetition? smallestPeriod badEdition? turnsOf
+part-of-aaa-in-2 = refl
+
+-- "12, an edition other than 1 or 2, directly after 1": before 6
+pub part-edition-0 : partOutcome word-ababa 0 0 5 ≡ refused 12 0
+unfolding partOutcome badEdition?
+part-edition-0 = refl
+
+pub part-edition-3 : partOutcome word-ababa 3 4 3 ≡ refused 12 0
+unfolding partOutcome badEdition?
+part-edition-3 = refl
+
+pub part-too-long-before-edition : partOutcome (replicate 4097 97) 3 1 1 ≡ refused 1 0
 unfolding partOutcome
+part-too-long-before-edition = refl
+
+-- "6: first below 1, last above n or first above last"
+pub part-first-zero : partOutcome word-ababa 1 0 5 ≡ refused 6 0
+unfolding partOutcome badEdition?
 part-first-zero = refl
 
-pub part-last-above : partOutcome word-ababa 1 6 ≡ refused 6 0
-unfolding partOutcome
+pub part-last-above : partOutcome word-ababa 1 1 6 ≡ refused 6 0
+unfolding partOutcome badEdition?
 part-last-above = refl
 
-pub part-turned : partOutcome word-ababa 4 3 ≡ refused 6 0
-unfolding partOutcome
+pub part-turned : partOutcome word-ababa 1 4 3 ≡ refused 6 0
+unfolding partOutcome badEdition?
 part-turned = refl
 
-pub part-of-empty : partOutcome [] 1 0 ≡ refused 6 0
-unfolding partOutcome
+pub part-of-empty : partOutcome [] 1 1 0 ≡ refused 6 0
+unfolding partOutcome badEdition?
 part-of-empty = refl
 
 -- "4,097 passes": 1 comes before 6
-pub part-too-long-first : partOutcome (replicate 4097 97) 0 0 ≡ refused 1 0
-unfolding partOutcome
+pub part-too-long-first : partOutcome (replicate 4097 97) 1 0 0 ≡ refused 1 0
+unfolding partOutcome badEdition?
 part-too-long-first = refl
 
 -- "The limit is n = 4,096": so many are taken
-pub part-longest : partOutcome (replicate 4096 97) 0 0 ≡ refused 6 0
-unfolding partOutcome
+pub part-longest : partOutcome (replicate 4096 97) 1 0 0 ≡ refused 6 0
+unfolding partOutcome badEdition?
 part-longest = refl
 
 -- "Taking any period as the unit: aaaa then has two paths for one split." Its unit is 1.

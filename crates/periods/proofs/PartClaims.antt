@@ -1,5 +1,5 @@
--- What the part call answers means what document 01 says, for every word, first and last; and its answers are told apart by their numbers. By the order of
--- the tests in the definition. Assumes nothing.
+-- What the part call answers means what the documents say, for every word, edition, first and last; and its answers are told apart by their numbers. By the
+-- order of the tests in the definition. Assumes nothing.
 use mathlib.Core.Path.{_≡_, refl, sym, ap, subst}
 use mathlib.Core.Bool.{Bool, true, false, _||_, and-true, or-true}
 use mathlib.Core.List.{List, [], _∷_}
@@ -14,10 +14,13 @@ use Rattle.answers.specs.Outcome.{Outcome, accepted, refused, refusal, limit}
 use Rattle.answers.proofs.Claims.{refused-accepted, refusal-injective}
 use Rattle.periods.specs.declared.PartAnswer.{PartAnswer}
 use Rattle.periods.specs.declared.PartAnswer.the-variants.{Described, Refused}
-use Rattle.periods.specs.Period.{part, smallestPeriod, repetition?, turns, anyPeriod}
-use Rattle.periods.specs.Part.{flag, partView, description, partOutcome, Within, Describes, PartMeaning, too-long, outside, described}
+use Rattle.periods.specs.Period.{part, smallestPeriod, repetition?, anyPeriod}
+use Rattle.periods.specs.Edition.{Edition, turnsOf}
+use Rattle.periods.specs.Part.{flag, partView, description, partOutcome, Within, Describes, PartMeaning, too-long, bad-edition, outside, described}
 use Rattle.periods.proofs.InPlace.{placed-part}
 use Rattle.periods.proofs.Claims.{smallest-period-is, repetition-sound, repetition-complete}
+use Rattle.periods.proofs.Editions.{good-edition, edition?}
+use Rattle.periods.proofs.Editions as editions
 
 -- ---- the description
 
@@ -38,24 +41,24 @@ true-flag : (b : Bool) → T b → flag b ≡ 1
 true-flag true t = refl
 true-flag false t = absurd t
 
-pub describes : (s : List ℕ) → 0 < length s → Describes s (smallestPeriod s) (length s / smallestPeriod s) (length s % smallestPeriod s) (flag (repetition? anyPeriod turns s))
-describes s h =
+pub describes : (k : ℕ) (s : List ℕ) → 0 < length s → Describes k s (smallestPeriod s) (length s / smallestPeriod s) (length s % smallestPeriod s) (flag (repetition? anyPeriod k s))
+describes k s h =
     let S = smallest-period-is s h in
     record {
       smallest = S;
       divided = div-add-mod' (length s) (smallestPeriod s);
       short = mod-lt (length s) (S .period .positive);
-      flagged = flag-le (repetition? anyPeriod turns s);
+      flagged = flag-le (repetition? anyPeriod k s);
       is-block = (
-        λ e. repetition-sound anyPeriod turns s (flag-true (repetition? anyPeriod turns s) e),
-        λ R. true-flag (repetition? anyPeriod turns s) (repetition-complete anyPeriod turns s R),
+        λ e. repetition-sound anyPeriod k s (flag-true (repetition? anyPeriod k s) e),
+        λ R. true-flag (repetition? anyPeriod k s) (repetition-complete anyPeriod k s R),
       );
     }
 
 -- a description from the unit and the length
-pub described-by : (s : List ℕ) (u n : ℕ) → 0 < n → n ≡ length s → u ≡ smallestPeriod s → _≡_ {A = List ℕ} (u ∷ n / u ∷ n % u ∷ flag (leb (turns * u) n) ∷ []) (description s)
+pub described-by : (k : ℕ) (s : List ℕ) (u n : ℕ) → 0 < n → n ≡ length s → u ≡ smallestPeriod s → _≡_ {A = List ℕ} (u ∷ n / u ∷ n % u ∷ flag (leb (k * u) n) ∷ []) (description k s)
 unfolding description
-described-by s u n h e f = rw (f, e, repetition-any turns s (subst (λ (x : ℕ). 0 < x) e h))
+described-by k s u n h e f = rw (f, e, repetition-any k s (subst (λ (x : ℕ). 0 < x) e h))
 
 pub part-length : (w : List ℕ) (first last : ℕ) → Within w first last → length (part w (first - 1) last) ≡ last - (first - 1)
 part-length w first last h = placed-part w (first - 1) last (h .2) .long
@@ -74,37 +77,48 @@ outside-tests w first last h = go (decLt first 1) (decLt (length w) last) (decLt
 within-tests : (w : List ℕ) (first last : ℕ) → Within w first last → (ltb first 1 || (ltb (length w) last || ltb last first)) ≡ false
 within-tests w first last h = simp (le-ltb first 1 (h .0), le-ltb (length w) last (h .2), le-ltb last first (h .1))
 
-pub part-too-long : (w : List ℕ) (first last : ℕ) → limit < length w → refused 1 0 ≡ partOutcome w first last
-unfolding partOutcome
-part-too-long w first last h = simp (lt-ltb limit (length w) h)
+module _ (w : List ℕ) (edition first last : ℕ) where
+  pub part-too-long : limit < length w → refused 1 0 ≡ partOutcome w edition first last
+  unfolding partOutcome
+  part-too-long h = simp (lt-ltb limit (length w) h)
 
-pub part-outside : (w : List ℕ) (first last : ℕ) → length w ≤ limit → (Within w first last → ⊥) → refused 6 0 ≡ partOutcome w first last
-unfolding partOutcome
-part-outside w first last h k = simp (le-ltb limit (length w) h, outside-tests w first last k)
+  pub part-bad-edition : length w ≤ limit → (Edition edition → ⊥) → refused 12 0 ≡ partOutcome w edition first last
+  unfolding partOutcome
+  part-bad-edition h e = simp (le-ltb limit (length w) h, editions.bad-edition edition e)
 
-pub part-described : (w : List ℕ) (first last : ℕ) → length w ≤ limit → Within w first last → accepted (description (part w (first - 1) last)) ≡ partOutcome w first last
-unfolding partOutcome
-part-described w first last h k = simp (le-ltb limit (length w) h, within-tests w first last k)
+  pub part-outside : length w ≤ limit → Edition edition → (Within w first last → ⊥) → refused 6 0 ≡ partOutcome w edition first last
+  unfolding partOutcome
+  part-outside h e k = simp (le-ltb limit (length w) h, good-edition edition e, outside-tests w first last k)
 
--- CLAIM: what the part call answers means what document 01 says
-pub part-means : (w : List ℕ) (first last : ℕ) → PartMeaning w first last (partOutcome w first last)
-unfolding description
-part-means w first last = go (decLt limit (length w)) (decLe 1 first) (decLe first last) (decLe last (length w))
-  where
-    go : Dec (limit < length w) → Dec (1 ≤ first) → Dec (first ≤ last) → Dec (last ≤ length w) → PartMeaning w first last (partOutcome w first last)
-    go (yes h) x y z = too-long h (sym (part-too-long w first last h))
-    go (no h) (no x) y z = outside (omega arith) (λ k. x (k .0)) (sym (part-outside w first last (omega arith) (λ k. x (k .0))))
-    go (no h) (yes x) (no y) z = outside (omega arith) (λ k. y (k .1)) (sym (part-outside w first last (omega arith) (λ k. y (k .1))))
-    go (no h) (yes x) (yes y) (no z) = outside (omega arith) (λ k. z (k .2)) (sym (part-outside w first last (omega arith) (λ k. z (k .2))))
-    go (no h) (yes x) (yes y) (yes z) =
-        let s = part w (first - 1) last in
-        described (omega arith) (x, y, z) (smallestPeriod s) (length s / smallestPeriod s) (length s % smallestPeriod s) (flag (repetition? anyPeriod turns s))
-        (describes s (omega (arith, part-length w first last (x, y, z))))
-        (sym (part-described w first last (omega arith) (x, y, z)))
+  pub part-described : length w ≤ limit → Edition edition → Within w first last
+      → accepted (description (turnsOf edition) (part w (first - 1) last)) ≡ partOutcome w edition first last
+  unfolding partOutcome
+  part-described h e k = simp (le-ltb limit (length w) h, good-edition edition e, within-tests w first last k)
 
--- the answer with its meaning
-pub part-answered : (w : List ℕ) (first last : ℕ) (o : Outcome) → o ≡ partOutcome w first last → (o ≡ partOutcome w first last) × PartMeaning w first last o
-part-answered w first last o e = (e, subst (λ (x : Outcome). PartMeaning w first last x) (sym e) (part-means w first last))
+  -- CLAIM: what the part call answers means what the documents say
+  pub part-means : PartMeaning w edition first last (partOutcome w edition first last)
+  unfolding description
+  part-means = go (decLt limit (length w)) (edition? edition) (decLe 1 first) (decLe first last) (decLe last (length w))
+    where
+      out : length w ≤ limit → Edition edition → (Within w first last → ⊥) → PartMeaning w edition first last (partOutcome w edition first last)
+      out h e k = outside h e k (sym (part-outside h e k))
+
+      go : Dec (limit < length w) → Dec (Edition edition) → Dec (1 ≤ first) → Dec (first ≤ last) → Dec (last ≤ length w)
+          → PartMeaning w edition first last (partOutcome w edition first last)
+      go (yes h) e x y z = too-long h (sym (part-too-long h))
+      go (no h) (no e) x y z = bad-edition (omega arith) e (sym (part-bad-edition (omega arith) e))
+      go (no h) (yes e) (no x) y z = out (omega arith) e (λ k. x (k .0))
+      go (no h) (yes e) (yes x) (no y) z = out (omega arith) e (λ k. y (k .1))
+      go (no h) (yes e) (yes x) (yes y) (no z) = out (omega arith) e (λ k. z (k .2))
+      go (no h) (yes e) (yes x) (yes y) (yes z) =
+          let s = part w (first - 1) last in
+          described (omega arith) e (x, y, z) (smallestPeriod s) (length s / smallestPeriod s) (length s % smallestPeriod s) (flag (repetition? anyPeriod (turnsOf edition) s))
+          (describes (turnsOf edition) s (omega (arith, part-length w first last (x, y, z))))
+          (sym (part-described (omega arith) e (x, y, z)))
+
+  -- the answer with its meaning
+  pub part-answered : (o : Outcome) → o ≡ partOutcome w edition first last → (o ≡ partOutcome w edition first last) × PartMeaning w edition first last o
+  part-answered o e = (e, subst (λ (x : Outcome). PartMeaning w edition first last x) (sym e) part-means)
 
 -- ---- CLAIM: an answer is determined by its numbers
 

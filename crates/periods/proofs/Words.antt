@@ -1,4 +1,4 @@
--- The sequences of document 01 that its examples speak of, as words.
+-- The sequences that the examples of the documents speak of, as words.
 use mathlib.Core.List.{List, [], _∷_}
 use Prim.Native.Nat.{ℕ}
 
@@ -14,14 +14,23 @@ word-ab = 97 ∷ 98 ∷ []
 abbrev pub word-aa : List ℕ
 word-aa = 97 ∷ 97 ∷ []
 
+abbrev pub word-aaa : List ℕ
+word-aaa = 97 ∷ 97 ∷ 97 ∷ []
+
 abbrev pub word-aaaa : List ℕ
 word-aaaa = 97 ∷ 97 ∷ 97 ∷ 97 ∷ []
 
 abbrev pub word-aaaaa : List ℕ
 word-aaaaa = 97 ∷ 97 ∷ 97 ∷ 97 ∷ 97 ∷ []
 
+abbrev pub word-aaaaaa : List ℕ
+word-aaaaaa = 97 ∷ 97 ∷ 97 ∷ 97 ∷ 97 ∷ 97 ∷ []
+
 abbrev pub word-ababa : List ℕ
 word-ababa = 97 ∷ 98 ∷ 97 ∷ 98 ∷ 97 ∷ []
+
+abbrev pub word-abababab : List ℕ
+word-abababab = 97 ∷ 98 ∷ 97 ∷ 98 ∷ 97 ∷ 98 ∷ 97 ∷ 98 ∷ []
 
 abbrev pub word-baa : List ℕ
 word-baa = 98 ∷ 97 ∷ 97 ∷ []

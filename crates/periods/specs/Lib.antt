@@ -1,2 +1,3 @@
 pub mod Period
+pub mod Edition
 pub mod Part

@@ -21,17 +21,14 @@ pub record SmallestPeriod (s : List ℕ) (p : ℕ) : Type 0 where
   pub period : Period s p
   pub least : (q : ℕ) → Period s q → p ≤ q
 
--- a block: "A part with length ≥ 2 × unit". The turn number is k for 2, and only the periods that a test allows count.
+-- a block: "A part with length ≥ 2 × unit", and 3 × unit in edition 2. The turn number is k, and only the periods that a test allows count.
 pub record Repetition (allowed : ℕ → Bool) (k : ℕ) (s : List ℕ) : Type 0 where
   pub period : ℕ
   pub smallest : SmallestPeriod s period
   pub long : k * period ≤ length s
   pub permitted : T (allowed period)
 
--- document 01: "length ≥ 2 × unit", and "A unit may be of any length."
-abbrev pub turns : ℕ
-turns = 2
-
+-- "A unit may be of any length."
 abbrev pub anyPeriod : ℕ → Bool
 anyPeriod p = true
 

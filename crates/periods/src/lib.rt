@@ -1,14 +1,24 @@
-// Parts of a word, their periods, and the part call.
+// Parts of a word, their periods, the editions, and the part call.
 ghost use mathlib.Core.Path.{_≡_};
 ghost use Rattle.periods.specs.Period.{smallestPeriod};
+ghost use Rattle.periods.specs.Edition.{badEdition?, turnsOf};
 ghost use Rattle.periods.specs.Part.{partView, partOutcome, PartMeaning};
 
 pub mod inner;
 
 use answers::Refusal;
 
-// A repetition (block) has at least so many whole turns.
-pub const TURNS: usize = 2;
+// Edition 1 of the winder's controller, which the old winders have.
+pub const FIRST_EDITION: u32 = 1;
+
+// Edition 2, which the new one has.
+pub const SECOND_EDITION: u32 = 2;
+
+// The whole turns that a repetition (block) of edition 1 has at least.
+pub const FIRST_TURNS: usize = 2;
+
+// The same of edition 2.
+pub const SECOND_TURNS: usize = 3;
 
 // What the part call says of a part: document 01's unit, turns, rest, and block or not.
 pub struct Description {
@@ -21,6 +31,26 @@ pub struct Description {
 pub enum PartAnswer {
     Described(Description),
     Refused(Refusal),
+}
+
+// Whether a number is no edition.
+pub fn bad_edition(edition: u32) -> bool
+    ensures { λ r. ⌜ r ≡ badEdition? edition ⌝ }
+{
+    if edition < FIRST_EDITION {
+        return true;
+    }
+    SECOND_EDITION < edition
+}
+
+// The whole turns that a repetition (block) of an edition has at least.
+pub fn turns(edition: u32) -> usize
+    ensures { λ r. ⌜ r ≡ turnsOf edition ⌝ }
+{
+    if edition == FIRST_EDITION {
+        return FIRST_TURNS;
+    }
+    SECOND_TURNS
 }
 
 // The unit of the part that is lent; 0 for an empty one. Time: the product of the part's length
@@ -47,14 +77,18 @@ pub fn smallest_period(part: &[u8]) -> usize
 }
 
 // The part call: unit, turns, rest, and block or not, of the symbols at the positions first to
-// last, counted from 1. Refusals: 1, 6. Time: as smallest_period of that part.
-pub fn part(w: &[u8], first: u32, last: u32) -> PartAnswer
-    ensures answer { λ r. ⌜ partView r ≡ partOutcome (now (w .entry)) first last ⌝ }
-    ensures meaning { λ r. ⌜ PartMeaning (now (w .entry)) first last (partView r) ⌝ }
+// last, counted from 1; the edition decides about the block alone. Refusals: 1, 12, 6. Time: as
+// smallest_period of that part.
+pub fn part(w: &[u8], edition: u32, first: u32, last: u32) -> PartAnswer
+    ensures answer { λ r. ⌜ partView r ≡ partOutcome (now (w .entry)) edition first last ⌝ }
+    ensures meaning { λ r. ⌜ PartMeaning (now (w .entry)) edition first last (partView r) ⌝ }
 {
     let n = w.len();
     if answers::LIMIT < n {
         return PartAnswer::Refused(Refusal::TooLong);
+    }
+    if bad_edition(edition) {
+        return PartAnswer::Refused(Refusal::BadEdition);
     }
     if first < 1 {
         return PartAnswer::Refused(Refusal::BadPosition);
@@ -69,10 +103,11 @@ pub fn part(w: &[u8], first: u32, last: u32) -> PartAnswer
     let start = first as usize - 1;
     let unit = smallest_period(&w[start..end]);
     let len = end - start;
+    let turns = turns(edition);
     PartAnswer::Described(Description {
         period: unit as u32,
         exponent: (len / unit) as u32,
         remainder: (len % unit) as u32,
-        repetition: TURNS * unit <= len,
+        repetition: turns * unit <= len,
     })
 }

@@ -1,6 +1,6 @@
--- Best split says all of demand 3, for every word, choice and tables: `best-means`. A filled table says for each prefix length whether it has a factorization,
--- and if so the best size (factors/proofs/Optimal.antt); the previous boundaries lead back over the ends that win the tie; and the factorizations of a prefix
--- in place are those that it has as a word of its own. Assumes nothing.
+-- Best split says all of demand 3, for every word, edition, choice and tables: `best-means`. A filled table says for each prefix length whether it has a
+-- factorization, and if so the best size (factors/proofs/Optimal.antt); the previous boundaries lead back over the ends that win the tie; and the
+-- factorizations of a prefix in place are those that it has as a word of its own. Assumes nothing.
 use mathlib.Core.Path.{_≡_, refl, sym, ap, _∙_, subst}
 use mathlib.Core.Logic.{_⊎_, inl, inr}
 use mathlib.Core.Bool.{Bool, cond, or-true}
@@ -13,7 +13,10 @@ use lib.Dec.{ltb, eqb}
 use lib.ListN.{length, getD, take, drop, replicate, length-append, length-take, length-drop, length-replicate, getD-replicate, replicate-append-replicate, List·getD-append}
 use lib.Seq.{take-at, drop-at, getD-append-add, drop-append-add}
 use Rattle.answers.specs.Outcome.{Outcome, refused, limit}
-use Rattle.periods.specs.Period.{anyPeriod, turns}
+use Rattle.periods.specs.Period.{anyPeriod}
+use Rattle.periods.specs.Edition.{Edition, turnsOf}
+use Rattle.periods.proofs.Editions.{good-edition, edition?}
+use Rattle.periods.proofs.Editions as editions
 use Rattle.factors.specs.Factorization.{Factorization, Choice, choiceOf, Cell, unreachable, reached, cell, bestEnds}
 use Rattle.factors.specs.Table.{none, rows, sizeIn, sizes, previous, filled, endsBack, Linked}
 use Rattle.factors.proofs.Optimal.{Answers, best-factorization, size-bound}
@@ -21,7 +24,7 @@ use Rattle.factors.proofs.TableLaws.{length-sizes, length-previous, sizes-at, p
 use Rattle.factors.proofs.Lent.{lent}
 use Rattle.repetitions.specs.Block.{Block, block?}
 use Rattle.repetitions.specs.Fill.{rowOne, handedOutcome, handedEnds}
-use Rattle.repetitions.specs.BestSplit.{sizeOutcome, sizeEnds, lastCell, tested, bestOutcome, bestEndsTable, bestWork, Reported, unsplittable, best, Answered, no-split, too-few, written, Settled, BestMeaning, too-long, bad-choice, short-table, settled}
+use Rattle.repetitions.specs.BestSplit.{sizeOutcome, sizeEnds, lastCell, settledEnds, settledWork, tested, bestOutcome, bestEndsTable, bestWork, Reported, unsplittable, best, Answered, no-split, too-few, written, Settled, BestMeaning, too-long, bad-edition, bad-choice, short-table, settled}
 use Rattle.repetitions.proofs.Blocks.{block-sound, block-complete, block-test-up, prefix-factorizations}
 use Rattle.repetitions.proofs.FillLaws.{second, zeros}
 
@@ -118,109 +121,129 @@ module _ (c : Choice) (b : ℕ → ℕ → Bool) (n : ℕ) (t : List ℕ) where
 
 -- ---- demand 3
 
-module _ (c : Choice) (w : List ℕ) where
-  -- the theorem of factors, for repetitions
-  pub word-answers : (m : ℕ) → Answers c (Block anyPeriod turns w) m (cell c (block? anyPeriod turns w) m) (bestEnds c (block? anyPeriod turns w) m)
+module _ (k : ℕ) (c : Choice) (w : List ℕ) where
+  -- CLAIM: the theorem of factors, for repetitions of any turn number
+  pub word-answers : (m : ℕ) → Answers c (Block anyPeriod k w) m (cell c (block? anyPeriod k w) m) (bestEnds c (block? anyPeriod k w) m)
   word-answers m =
-      best-factorization c (block? anyPeriod turns w) (Block anyPeriod turns w) (block-sound anyPeriod turns w) (block-complete anyPeriod turns w) (block-test-up anyPeriod turns w) m
+      best-factorization c (block? anyPeriod k w) (Block anyPeriod k w) (block-sound anyPeriod k w) (block-complete anyPeriod k w) (block-test-up anyPeriod k w) m
 
   -- what is reported of each prefix, as a word of its own
-  pub prefix-reported : (m : ℕ) → m ≤ length w → length w < none → Reported c (take m w) (sizeIn (cell c (block? anyPeriod turns w) m))
-  prefix-reported m h small = go (cell c (block? anyPeriod turns w) m) refl (word-answers m)
+  pub prefix-reported : (m : ℕ) → m ≤ length w → length w < none → Reported k c (take m w) (sizeIn (cell c (block? anyPeriod k w) m))
+  prefix-reported m h small = go (cell c (block? anyPeriod k w) m) refl (word-answers m)
     where
       long : length (take m w) ≡ m
       long = length-take m w ∙ omega arith
 
-      own : (es : List ℕ) → Factorization (Block anyPeriod turns (take m w)) (length (take m w)) es → Factorization (Block anyPeriod turns w) m es
-      own es k = prefix-factorizations anyPeriod turns w m es h .0 (subst (λ (x : ℕ). Factorization (Block anyPeriod turns (take m w)) x es) long k)
+      own : (es : List ℕ) → Factorization (Block anyPeriod k (take m w)) (length (take m w)) es → Factorization (Block anyPeriod k w) m es
+      own es f = prefix-factorizations anyPeriod k w m es h .0 (subst (λ (x : ℕ). Factorization (Block anyPeriod k (take m w)) x es) long f)
 
-      go : (v : Cell) → cell c (block? anyPeriod turns w) m ≡ v → Answers c (Block anyPeriod turns w) m v (bestEnds c (block? anyPeriod turns w) m) → Reported c (take m w) (sizeIn v)
-      go unreachable e A = unsplittable refl (λ es k. A es (own es k))
+      go : (v : Cell) → cell c (block? anyPeriod k w) m ≡ v → Answers c (Block anyPeriod k w) m v (bestEnds c (block? anyPeriod k w) m) → Reported k c (take m w) (sizeIn v)
+      go unreachable e A = unsplittable refl (λ es f. A es (own es f))
       go (reached s p) e A =
-          best (bestEnds c (block? anyPeriod turns w) m)
-          (subst (λ (x : ℕ). Factorization (Block anyPeriod turns (take m w)) x (bestEnds c (block? anyPeriod turns w) m)) (sym long)
-          (prefix-factorizations anyPeriod turns w m (bestEnds c (block? anyPeriod turns w) m) h .1 (A .factorization)))
+          best (bestEnds c (block? anyPeriod k w) m)
+          (subst (λ (x : ℕ). Factorization (Block anyPeriod k (take m w)) x (bestEnds c (block? anyPeriod k w) m)) (sym long)
+          (prefix-factorizations anyPeriod k w m (bestEnds c (block? anyPeriod k w) m) h .1 (A .factorization)))
           (A .sized)
-          (omega (arith, size-bound c (block? anyPeriod turns w) m s p e))
-          (λ fs k. A .best fs (own fs k))
+          (omega (arith, size-bound c (block? anyPeriod k w) m s p e))
+          (λ fs f. A .best fs (own fs f))
 
   -- what is answered of the whole
   pub word-answered : (e : List ℕ)
-      → Answered c w e (sizeIn (cell c (block? anyPeriod turns w) (length w))) (sizeOutcome (cell c (block? anyPeriod turns w) (length w)) (length e))
-      (sizeEnds (cell c (block? anyPeriod turns w) (length w)) (bestEnds c (block? anyPeriod turns w) (length w)) e)
-  word-answered e = go (cell c (block? anyPeriod turns w) (length w)) (word-answers (length w))
+      → Answered k c w e (sizeIn (cell c (block? anyPeriod k w) (length w))) (sizeOutcome (cell c (block? anyPeriod k w) (length w)) (length e))
+      (sizeEnds (cell c (block? anyPeriod k w) (length w)) (bestEnds c (block? anyPeriod k w) (length w)) e)
+  word-answered e = go (cell c (block? anyPeriod k w) (length w)) (word-answers (length w))
     where
       es : List ℕ
-      es = bestEnds c (block? anyPeriod turns w) (length w)
+      es = bestEnds c (block? anyPeriod k w) (length w)
 
-      go : (v : Cell) → Answers c (Block anyPeriod turns w) (length w) v es → Answered c w e (sizeIn v) (sizeOutcome v (length e)) (sizeEnds v es e)
+      go : (v : Cell) → Answers c (Block anyPeriod k w) (length w) v es → Answered k c w e (sizeIn v) (sizeOutcome v (length e)) (sizeEnds v es e)
       go unreachable A = no-split A refl refl
       go (reached s p) A = by (decLt (length e) s)
         where
-          by : Dec (length e < s) → Answered c w e s (sizeOutcome (reached s p) (length e)) (sizeEnds (reached s p) es e)
+          by : Dec (length e < s) → Answered k c w e s (sizeOutcome (reached s p) (length e)) (sizeEnds (reached s p) es e)
           by (yes x) = too-few es A x (rw (lt-ltb (length e) s x) refl) (rw (lt-ltb (length e) s x) refl)
           by (no x) = written es A (omega arith) (rw (le-ltb (length e) s (omega arith)) refl) (rw (le-ltb (length e) s (omega arith)) refl)
 
+-- CLAIM: the instances for the blocks of an edition, at every prefix length. turnsOf 1 is 2 and turnsOf 2 is 3; they hold for any other number too, of which
+-- no call makes use
+module _ (edition : ℕ) (c : Choice) (w : List ℕ) (m : ℕ) where
+  pub edition-answers : Answers c (Block anyPeriod (turnsOf edition) w) m (cell c (block? anyPeriod (turnsOf edition) w) m) (bestEnds c (block? anyPeriod (turnsOf edition) w) m)
+  edition-answers = word-answers (turnsOf edition) c w m
+
+  pub edition-reported : m ≤ length w → length w < none → Reported (turnsOf edition) c (take m w) (sizeIn (cell c (block? anyPeriod (turnsOf edition) w) m))
+  edition-reported = prefix-reported (turnsOf edition) c w m
+
 -- ---- the call, by its tests
 
-module _ (w : List ℕ) (choice : ℕ) (e t : List ℕ) where
-  tested-long : {A : Type 0} (a b d r : A) → limit < length w → tested w choice (length t) a b d r ≡ a
-  tested-long a b d r h = rw (lt-ltb limit (length w) h) refl
+module _ (w : List ℕ) (edition choice : ℕ) (e t : List ℕ) where
+  tested-long : {A : Type 0} (a s b d r : A) → limit < length w → tested w edition choice (length t) a s b d r ≡ a
+  tested-long a s b d r h = rw (lt-ltb limit (length w) h) refl
 
-  tested-bad : {A : Type 0} (a b d r : A) → length w ≤ limit → (choice < 1) ⊎ (2 < choice) → tested w choice (length t) a b d r ≡ b
-  tested-bad a b d r h (inl x) = rw (le-ltb limit (length w) h, lt-ltb choice 1 x) refl
-  tested-bad a b d r h (inr x) = rw (le-ltb limit (length w) h, lt-ltb 2 choice x) (ap (λ (u : Bool). cond u b (cond (ltb (length t) (rows * (length w + 1))) d r)) (or-true (ltb choice 1)))
+  tested-bad-edition : {A : Type 0} (a s b d r : A) → length w ≤ limit → (Edition edition → ⊥) → tested w edition choice (length t) a s b d r ≡ s
+  tested-bad-edition a s b d r h i = rw (le-ltb limit (length w) h, editions.bad-edition edition i) refl
 
-  tested-short : {A : Type 0} (a b d r : A) → length w ≤ limit → 1 ≤ choice → choice ≤ 2 → length t < rows * (length w + 1) → tested w choice (length t) a b d r ≡ d
-  tested-short a b d r h x y z = simp (le-ltb limit (length w) h, le-ltb choice 1 x, le-ltb 2 choice y, lt-ltb (length t) (rows * (length w + 1)) z)
+  tested-bad : {A : Type 0} (a s b d r : A) → length w ≤ limit → Edition edition → (choice < 1) ⊎ (2 < choice) → tested w edition choice (length t) a s b d r ≡ b
+  tested-bad a s b d r h i (inl x) = rw (le-ltb limit (length w) h, good-edition edition i, lt-ltb choice 1 x) refl
+  tested-bad a s b d r h i (inr x) =
+      rw (le-ltb limit (length w) h, good-edition edition i, lt-ltb 2 choice x)
+      (ap (λ (u : Bool). cond u b (cond (ltb (length t) (rows * (length w + 1))) d r)) (or-true (ltb choice 1)))
 
-  tested-fine : {A : Type 0} (a b d r : A) → length w ≤ limit → 1 ≤ choice → choice ≤ 2 → rows * (length w + 1) ≤ length t → tested w choice (length t) a b d r ≡ r
-  tested-fine a b d r h x y z = simp (le-ltb limit (length w) h, le-ltb choice 1 x, le-ltb 2 choice y, le-ltb (length t) (rows * (length w + 1)) z)
+  module _ (h : length w ≤ limit) (i : Edition edition) (x : 1 ≤ choice) (y : choice ≤ 2) where
+    tested-short : {A : Type 0} (a s b d r : A) → length t < rows * (length w + 1) → tested w edition choice (length t) a s b d r ≡ d
+    tested-short a s b d r z =
+        simp (le-ltb limit (length w) h, good-edition edition i, le-ltb choice 1 x, le-ltb 2 choice y, lt-ltb (length t) (rows * (length w + 1)) z)
+
+    tested-fine : {A : Type 0} (a s b d r : A) → rows * (length w + 1) ≤ length t → tested w edition choice (length t) a s b d r ≡ r
+    tested-fine a s b d r z =
+        simp (le-ltb limit (length w) h, good-edition edition i, le-ltb choice 1 x, le-ltb 2 choice y, le-ltb (length t) (rows * (length w + 1)) z)
 
   -- the three promises: the answer, the ends and the work
   pub record Promised (o : Outcome) (x y : List ℕ) : Type 0 where
-    pub answer : o ≡ bestOutcome w choice e t
-    pub ends : x ≡ bestEndsTable w choice e t
-    pub work : y ≡ bestWork w choice t
+    pub answer : o ≡ bestOutcome w edition choice e t
+    pub ends : x ≡ bestEndsTable w edition choice e t
+    pub work : y ≡ bestWork w edition choice t
 
   pub promised-long : limit < length w → Promised (refused 1 0) e t
   unfolding bestOutcome bestEndsTable bestWork
-  promised-long h = record { answer = sym (tested-long _ _ _ _ h); ends = sym (tested-long _ _ _ _ h); work = sym (tested-long _ _ _ _ h) }
+  promised-long h = record { answer = sym (tested-long _ _ _ _ _ h); ends = sym (tested-long _ _ _ _ _ h); work = sym (tested-long _ _ _ _ _ h) }
 
-  pub promised-bad : length w ≤ limit → (choice < 1) ⊎ (2 < choice) → Promised (refused 8 0) e t
+  pub promised-bad-edition : length w ≤ limit → (Edition edition → ⊥) → Promised (refused 12 0) e t
   unfolding bestOutcome bestEndsTable bestWork
-  promised-bad h k = record { answer = sym (tested-bad _ _ _ _ h k); ends = sym (tested-bad _ _ _ _ h k); work = sym (tested-bad _ _ _ _ h k) }
+  promised-bad-edition h i = record { answer = sym (tested-bad-edition _ _ _ _ _ h i); ends = sym (tested-bad-edition _ _ _ _ _ h i); work = sym (tested-bad-edition _ _ _ _ _ h i) }
 
-  pub promised-short : length w ≤ limit → 1 ≤ choice → choice ≤ 2 → length t < rows * (length w + 1) → Promised (refused 9 0) e t
+  pub promised-bad : length w ≤ limit → Edition edition → (choice < 1) ⊎ (2 < choice) → Promised (refused 8 0) e t
   unfolding bestOutcome bestEndsTable bestWork
-  promised-short h i j k = record { answer = sym (tested-short _ _ _ _ h i j k); ends = sym (tested-short _ _ _ _ h i j k); work = sym (tested-short _ _ _ _ h i j k) }
+  promised-bad h i k = record { answer = sym (tested-bad _ _ _ _ _ h i k); ends = sym (tested-bad _ _ _ _ _ h i k); work = sym (tested-bad _ _ _ _ _ h i k) }
 
-  pub promised-settled : length w ≤ limit → 1 ≤ choice → choice ≤ 2 → rows * (length w + 1) ≤ length t
-      → Promised (sizeOutcome (lastCell w choice) (length e)) (sizeEnds (lastCell w choice) (bestEnds (choiceOf choice) (block? anyPeriod turns w) (length w)) e)
-      (sizes (choiceOf choice) (block? anyPeriod turns w) (length w) ++ (replicate (3 * (length w + 1)) 0 ++ drop (rows * (length w + 1)) t))
+  pub promised-short : length w ≤ limit → Edition edition → 1 ≤ choice → choice ≤ 2 → length t < rows * (length w + 1) → Promised (refused 9 0) e t
   unfolding bestOutcome bestEndsTable bestWork
-  promised-settled h i j k = record { answer = sym (tested-fine _ _ _ _ h i j k); ends = sym (tested-fine _ _ _ _ h i j k); work = sym (tested-fine _ _ _ _ h i j k) }
+  promised-short h i x y k = record { answer = sym (tested-short h i x y _ _ _ _ _ k); ends = sym (tested-short h i x y _ _ _ _ _ k); work = sym (tested-short h i x y _ _ _ _ _ k) }
+
+  pub promised-settled : length w ≤ limit → Edition edition → 1 ≤ choice → choice ≤ 2 → rows * (length w + 1) ≤ length t
+      → Promised (sizeOutcome (lastCell (turnsOf edition) w choice) (length e)) (settledEnds (turnsOf edition) w choice e) (settledWork (turnsOf edition) w choice t)
+  unfolding bestOutcome bestEndsTable bestWork
+  promised-settled h i x y k = record { answer = sym (tested-fine h i x y _ _ _ _ _ k); ends = sym (tested-fine h i x y _ _ _ _ _ k); work = sym (tested-fine h i x y _ _ _ _ _ k) }
 
   -- the working table after an answer, 2 and 7
   pub settled-table : rows * (length w + 1) ≤ length t → length w < none
-      → Settled w choice e t (sizeOutcome (lastCell w choice) (length e)) (sizeEnds (lastCell w choice) (bestEnds (choiceOf choice) (block? anyPeriod turns w) (length w)) e)
-      (sizes (choiceOf choice) (block? anyPeriod turns w) (length w) ++ (replicate (3 * (length w + 1)) 0 ++ drop (rows * (length w + 1)) t))
+      → Settled (turnsOf edition) w choice e t (sizeOutcome (lastCell (turnsOf edition) w choice) (length e)) (sizeEnds (lastCell (turnsOf edition) w choice) (bestEnds (choiceOf choice) (block? anyPeriod (turnsOf edition) w) (length w)) e)
+      (sizes (choiceOf choice) (block? anyPeriod (turnsOf edition) w) (length w) ++ (replicate (3 * (length w + 1)) 0 ++ drop (rows * (length w + 1)) t))
   settled-table room small = record {
-    prefixes = λ m h. subst (λ (v : ℕ). Reported c (take m w) v) (sym (at m h)) (prefix-reported c w m h small);
+    prefixes = λ m h. subst (λ (v : ℕ). Reported (turnsOf edition) c (take m w) v) (sym (at m h)) (edition-reported edition c w m h small);
     cleared = cleared;
     kept = kept;
     long = long;
-    answered = subst (λ (v : ℕ). Answered c w e v (sizeOutcome (lastCell w choice) (length e)) (sizeEnds (lastCell w choice) (bestEnds c b (length w)) e)) (sym (at (length w) (omega arith))) (word-answered c w e);
+    answered = subst (λ (v : ℕ). Answered (turnsOf edition) c w e v (sizeOutcome (lastCell (turnsOf edition) w choice) (length e)) (sizeEnds (lastCell (turnsOf edition) w choice) (bestEnds c b (length w)) e)) (sym (at (length w) (omega arith))) (word-answered (turnsOf edition) c w e);
   }
     where
       c : Choice
       c = choiceOf choice
 
       b : ℕ → ℕ → Bool
-      b = block? anyPeriod turns w
+      b = block? anyPeriod (turnsOf edition) w
 
       S : List ℕ
-      S = sizes (choiceOf choice) (block? anyPeriod turns w) (length w)
+      S = sizes (choiceOf choice) (block? anyPeriod (turnsOf edition) w) (length w)
 
       Z : List ℕ
       Z = replicate (3 * (length w + 1)) 0
@@ -254,28 +277,33 @@ module _ (w : List ℕ) (choice : ℕ) (e t : List ℕ) where
       long = omega (arith, length-append S (Z ++ R), first, length-append Z R, zero-long, length-drop (rows * (length w + 1)) t)
 
   -- CLAIM: best split says all of demand 3
-  pub best-means : BestMeaning w choice e t (bestOutcome w choice e t) (bestEndsTable w choice e t) (bestWork w choice t)
-  best-means = go (decLt limit (length w)) (decLt choice 1) (decLt 2 choice) (decLt (length t) (rows * (length w + 1)))
+  pub best-means : BestMeaning w edition choice e t (bestOutcome w edition choice e t) (bestEndsTable w edition choice e t) (bestWork w edition choice t)
+  best-means = go (decLt limit (length w)) (edition? edition)
     where
-      by : {o : Outcome} {x y : List ℕ} → Promised o x y → BestMeaning w choice e t o x y → BestMeaning w choice e t (bestOutcome w choice e t) (bestEndsTable w choice e t) (bestWork w choice t)
+      by : {o : Outcome} {x y : List ℕ} → Promised o x y → BestMeaning w edition choice e t o x y → BestMeaning w edition choice e t (bestOutcome w edition choice e t) (bestEndsTable w edition choice e t) (bestWork w edition choice t)
       by P M = rw (← P .answer, ← P .ends, ← P .work) M
 
       one-two : 1 ≤ choice → choice ≤ 2 → Dec (choice ≡ 1) → (choice ≡ 1) ⊎ (choice ≡ 2)
       one-two i j (yes z) = inl z
       one-two i j (no z) = inr (omega arith)
 
-      go : Dec (limit < length w) → Dec (choice < 1) → Dec (2 < choice) → Dec (length t < rows * (length w + 1))
-          → BestMeaning w choice e t (bestOutcome w choice e t) (bestEndsTable w choice e t) (bestWork w choice t)
-      go (yes h) a b d = by (promised-long h) (too-long h refl refl refl)
-      go (no h) (yes a) b d = by (promised-bad (omega arith) (inl a)) (bad-choice (omega arith) (λ z. omega arith) (λ z. omega arith) refl refl refl)
-      go (no h) (no a) (yes b) d = by (promised-bad (omega arith) (inr b)) (bad-choice (omega arith) (λ z. omega arith) (λ z. omega arith) refl refl refl)
-      go (no h) (no a) (no b) (yes d) =
-          by (promised-short (omega arith) (omega arith) (omega arith) d) (short-table (omega arith) (one-two (omega arith) (omega arith) (ℕ-discrete choice 1)) d refl refl refl)
-      go (no h) (no a) (no b) (no d) =
-          by (promised-settled (omega arith) (omega arith) (omega arith) (omega arith))
-          (settled (omega arith) (one-two (omega arith) (omega arith) (ℕ-discrete choice 1)) (omega arith) (settled-table (omega arith) (omega arith)))
+      chosen : length w ≤ limit → Edition edition → Dec (choice < 1) → Dec (2 < choice) → Dec (length t < rows * (length w + 1))
+          → BestMeaning w edition choice e t (bestOutcome w edition choice e t) (bestEndsTable w edition choice e t) (bestWork w edition choice t)
+      chosen h i (yes a) b d = by (promised-bad h i (inl a)) (bad-choice h i (λ z. omega arith) (λ z. omega arith) refl refl refl)
+      chosen h i (no a) (yes b) d = by (promised-bad h i (inr b)) (bad-choice h i (λ z. omega arith) (λ z. omega arith) refl refl refl)
+      chosen h i (no a) (no b) (yes d) =
+          by (promised-short h i (omega arith) (omega arith) d) (short-table h i (one-two (omega arith) (omega arith) (ℕ-discrete choice 1)) d refl refl refl)
+      chosen h i (no a) (no b) (no d) =
+          by (promised-settled h i (omega arith) (omega arith) (omega arith))
+          (settled h i (one-two (omega arith) (omega arith) (ℕ-discrete choice 1)) (omega arith) (settled-table (omega arith) (omega arith)))
+
+      go : Dec (limit < length w) → Dec (Edition edition)
+          → BestMeaning w edition choice e t (bestOutcome w edition choice e t) (bestEndsTable w edition choice e t) (bestWork w edition choice t)
+      go (yes h) i = by (promised-long h) (too-long h refl refl refl)
+      go (no h) (no i) = by (promised-bad-edition (omega arith) i) (bad-edition (omega arith) i refl refl refl)
+      go (no h) (yes i) = chosen (omega arith) i (decLt choice 1) (decLt 2 choice) (decLt (length t) (rows * (length w + 1)))
 
   -- what the call ensures, from the three promises
   pub best-answered : (o : Outcome) (x y : List ℕ) → Promised o x y
-      → (o ≡ bestOutcome w choice e t) × ((x ≡ bestEndsTable w choice e t) × ((y ≡ bestWork w choice t) × BestMeaning w choice e t o x y))
+      → (o ≡ bestOutcome w edition choice e t) × ((x ≡ bestEndsTable w edition choice e t) × ((y ≡ bestWork w edition choice t) × BestMeaning w edition choice e t o x y))
   best-answered o x y P = (P .answer, (P .ends, (P .work, rw (P .answer, P .ends, P .work) best-means)))

@@ -72,6 +72,19 @@ module _ (allowed : ℕ → Bool) (k : ℕ) (w : List ℕ) (i j : ℕ) where
   pub block-test-up : T (block? allowed k w i j) → i < j
   block-test-up h = block-up (block-sound h)
 
+-- ---- fewer turns
+
+-- a block of more turns is one of fewer, and so are those of a factorization
+pub block-fewer-turns : (allowed : ℕ → Bool) (m k : ℕ) (w : List ℕ) (i j : ℕ) → m ≤ k → Block allowed k w i j → Block allowed m w i j
+block-fewer-turns allowed m k w i j h K = (
+  K .0,
+  record { period = K .1 .period; smallest = K .1 .smallest; long = omega (arith, mul-le-mul-right (K .1 .period) h, K .1 .long); permitted = K .1 .permitted },
+)
+
+pub factorization-fewer-turns : (allowed : ℕ → Bool) (m k : ℕ) (w : List ℕ) (n : ℕ) (es : List ℕ) → m ≤ k → Factorization (Block allowed k w) n es
+    → Factorization (Block allowed m w) n es
+factorization-fewer-turns allowed m k w n es h = chain-map (Block allowed k w) (Block allowed m w) (λ i j. block-fewer-turns allowed m k w i j h) 0 es n
+
 -- ---- prefixes
 
 -- a part of a prefix is that part of the word

@@ -1,5 +1,5 @@
--- Document 01's examples of the definitions that the contracts of this crate cite, computed: the starred sequences as one table with one claim, the two longest
--- sequences of letters, the tie rule, and the judged splits. Assumes nothing.
+-- The documents' examples of the definitions that the contracts of this crate cite, computed: the starred sequences in both editions as one table each with
+-- one claim, the two longest sequences of letters, the tie rule, and the judged splits. Assumes nothing.
 use mathlib.Core.Path.{_≡_, refl, ap, ap₂}
 use mathlib.Core.Logic.{inl, inr}
 use mathlib.Core.Bool.{Bool, true, false, _&&_}
@@ -10,27 +10,29 @@ use lib.Dec.{T, eqb, eqb→eq}
 use lib.ListN.{length, replicate}
 use Rattle.laws.proofs.Tests.{and-left, and-right}
 use Rattle.answers.specs.Outcome.{Outcome, accepted, refused}
-use Rattle.periods.specs.Period.{smallestPeriod, repetition?, anyPeriod, turns}
+use Rattle.periods.specs.Period.{smallestPeriod, repetition?, anyPeriod}
+use Rattle.periods.specs.Edition.{badEdition?, turnsOf}
 use Rattle.factors.specs.Factorization.{LongerFromEnd, cell, bestEnds}
 use Rattle.factors.specs.Table.{none, sizes}
 use Rattle.factors.specs.Verdict.{verdict}
 use Rattle.repetitions.specs.Block.{block?}
 use Rattle.repetitions.specs.BestSplit.{bestOutcome, bestEndsTable, bestWork}
 use Rattle.repetitions.specs.Judge.{splitOutcome}
-use Rattle.periods.proofs.Words.{word-a, word-aa, word-aaaa, word-aaaaa, word-aabaabaa, word-aabaabaacbbcbbcbb, word-aabb, word-ab, word-abaabaababaabaabababa, word-ababa, word-baa, word-empty}
+use Rattle.periods.proofs.Words.{word-a, word-aa, word-aaa, word-aaaa, word-aaaaa, word-aaaaaa, word-aabaabaa, word-aabaabaacbbcbbcbb, word-aabb, word-ab, word-abaabaababaabaabababa, word-ababa, word-baa, word-empty}
 
 -- ---- the starred cases
 
--- a sequence, a choice, and what is expected: the answer, the first places of the ends' table, the best size of each prefix length
+-- a sequence, an edition, a choice, and what is expected: the answer, the first places of the ends' table, the best size of each prefix length
 pub record Case : Type 0 where
   pub word : List ℕ
+  pub edition : ℕ
   pub choice : ℕ
   pub answer : Outcome
   pub ends : List ℕ
   pub best : List ℕ
 
-abbrev case : List ℕ → ℕ → Outcome → List ℕ → List ℕ → Case
-case w choice answer ends best = record { word = w; choice = choice; answer = answer; ends = ends; best = best }
+abbrev case : ℕ → List ℕ → ℕ → Outcome → List ℕ → List ℕ → Case
+case edition w choice answer ends best = record { word = w; edition = edition; choice = choice; answer = answer; ends = ends; best = best }
 
 -- the tables are lent with other numbers in them: as many places for ends as there are symbols and one more, and one place more than the working table needs
 abbrev lentEnds : List ℕ → List ℕ
@@ -50,9 +52,9 @@ workLeft w best = best ++ (replicate (3 * (length w + 1)) 0 ++ (9 ∷ []))
 -- the three definitions give what is expected
 abbrev pub Holds : Case → Type 0
 Holds x =
-    (bestOutcome (x .word) (x .choice) (lentEnds (x .word)) (lentWork (x .word)) ≡ x .answer)
-    × (bestEndsTable (x .word) (x .choice) (lentEnds (x .word)) (lentWork (x .word)) ≡ endsLeft (x .word) (x .ends))
-    × (bestWork (x .word) (x .choice) (lentWork (x .word)) ≡ workLeft (x .word) (x .best))
+    (bestOutcome (x .word) (x .edition) (x .choice) (lentEnds (x .word)) (lentWork (x .word)) ≡ x .answer)
+    × (bestEndsTable (x .word) (x .edition) (x .choice) (lentEnds (x .word)) (lentWork (x .word)) ≡ endsLeft (x .word) (x .ends))
+    × (bestWork (x .word) (x .edition) (x .choice) (lentWork (x .word)) ≡ workLeft (x .word) (x .best))
 
 -- the same as a test
 abbrev same? : List ℕ → List ℕ → Bool
@@ -69,9 +71,9 @@ sameOutcome? (refused x i) (refused y j) = eqb x y && eqb i j
 
 abbrev pub holds? : Case → Bool
 holds? x =
-    sameOutcome? (bestOutcome (x .word) (x .choice) (lentEnds (x .word)) (lentWork (x .word))) (x .answer)
-    && (same? (bestEndsTable (x .word) (x .choice) (lentEnds (x .word)) (lentWork (x .word))) (endsLeft (x .word) (x .ends))
-    && same? (bestWork (x .word) (x .choice) (lentWork (x .word))) (workLeft (x .word) (x .best)))
+    sameOutcome? (bestOutcome (x .word) (x .edition) (x .choice) (lentEnds (x .word)) (lentWork (x .word))) (x .answer)
+    && (same? (bestEndsTable (x .word) (x .edition) (x .choice) (lentEnds (x .word)) (lentWork (x .word))) (endsLeft (x .word) (x .ends))
+    && same? (bestWork (x .word) (x .edition) (x .choice) (lentWork (x .word))) (workLeft (x .word) (x .best)))
 
 abbrev pub all : List Case → Bool
 all [] = true
@@ -93,9 +95,9 @@ same-outcome-means (refused x i) (refused y j) h = ap₂ refused (eqb→eq x y (
 -- a case that passes the test holds
 pub holds-means : (x : Case) → T (holds? x) → Holds x
 holds-means x h =
-    let o = bestOutcome (x .word) (x .choice) (lentEnds (x .word)) (lentWork (x .word)) in
-    let e = bestEndsTable (x .word) (x .choice) (lentEnds (x .word)) (lentWork (x .word)) in
-    let t = bestWork (x .word) (x .choice) (lentWork (x .word)) in
+    let o = bestOutcome (x .word) (x .edition) (x .choice) (lentEnds (x .word)) (lentWork (x .word)) in
+    let e = bestEndsTable (x .word) (x .edition) (x .choice) (lentEnds (x .word)) (lentWork (x .word)) in
+    let t = bestWork (x .word) (x .edition) (x .choice) (lentWork (x .word)) in
     let ends = same? e (endsLeft (x .word) (x .ends)) in
     let work = same? t (workLeft (x .word) (x .best)) in
     let rest = and-right (sameOutcome? o (x .answer)) (ends && work) h in (
@@ -107,157 +109,235 @@ holds-means x h =
 -- document 01's table; its row "ab * | 2 | 2" means refusal 2, since ab is no block
 abbrev pub starred : List Case
 starred =
-    case word-empty 1 (accepted (0 ∷ [])) [] (0 ∷ [])
-    ∷ case word-empty 2 (accepted (0 ∷ [])) [] (0 ∷ [])
-    ∷ case word-a 1 (refused 2 0) [] (0 ∷ none ∷ [])
-    ∷ case word-a 2 (refused 2 0) [] (0 ∷ none ∷ [])
-    ∷ case word-ab 1 (refused 2 0) [] (0 ∷ none ∷ none ∷ [])
-    ∷ case word-ab 2 (refused 2 0) [] (0 ∷ none ∷ none ∷ [])
-    ∷ case word-aa 1 (accepted (1 ∷ [])) (2 ∷ []) (0 ∷ none ∷ 1 ∷ [])
-    ∷ case word-aa 2 (accepted (1 ∷ [])) (2 ∷ []) (0 ∷ none ∷ 1 ∷ [])
-    ∷ case word-aaaa 1 (accepted (1 ∷ [])) (4 ∷ []) (0 ∷ none ∷ 1 ∷ 1 ∷ 1 ∷ [])
-    ∷ case word-aaaa 2 (accepted (2 ∷ [])) (2 ∷ 4 ∷ []) (0 ∷ none ∷ 1 ∷ 1 ∷ 2 ∷ [])
-    ∷ case word-aaaaa 1 (accepted (1 ∷ [])) (5 ∷ []) (0 ∷ none ∷ 1 ∷ 1 ∷ 1 ∷ 1 ∷ [])
-    ∷ case word-aaaaa 2 (accepted (2 ∷ [])) (2 ∷ 5 ∷ []) (0 ∷ none ∷ 1 ∷ 1 ∷ 2 ∷ 2 ∷ [])
-    ∷ case word-ababa 1 (accepted (1 ∷ [])) (5 ∷ []) (0 ∷ none ∷ none ∷ none ∷ 1 ∷ 1 ∷ [])
-    ∷ case word-ababa 2 (accepted (1 ∷ [])) (5 ∷ []) (0 ∷ none ∷ none ∷ none ∷ 1 ∷ 1 ∷ [])
-    ∷ case word-baa 1 (refused 2 0) [] (0 ∷ none ∷ none ∷ none ∷ [])
-    ∷ case word-baa 2 (refused 2 0) [] (0 ∷ none ∷ none ∷ none ∷ [])
-    ∷ case word-aabb 1 (accepted (2 ∷ [])) (2 ∷ 4 ∷ []) (0 ∷ none ∷ 1 ∷ none ∷ 2 ∷ [])
-    ∷ case word-aabb 2 (accepted (2 ∷ [])) (2 ∷ 4 ∷ []) (0 ∷ none ∷ 1 ∷ none ∷ 2 ∷ [])
-    ∷ case word-aabaabaa 1 (accepted (1 ∷ [])) (8 ∷ []) (0 ∷ none ∷ 1 ∷ none ∷ none ∷ none ∷ 1 ∷ 1 ∷ 1 ∷ [])
-    ∷ case word-aabaabaa 2 (accepted (2 ∷ [])) (2 ∷ 8 ∷ []) (0 ∷ none ∷ 1 ∷ none ∷ none ∷ none ∷ 1 ∷ 1 ∷ 2 ∷ [])
+    case 1 word-empty 1 (accepted (0 ∷ [])) [] (0 ∷ [])
+    ∷ case 1 word-empty 2 (accepted (0 ∷ [])) [] (0 ∷ [])
+    ∷ case 1 word-a 1 (refused 2 0) [] (0 ∷ none ∷ [])
+    ∷ case 1 word-a 2 (refused 2 0) [] (0 ∷ none ∷ [])
+    ∷ case 1 word-ab 1 (refused 2 0) [] (0 ∷ none ∷ none ∷ [])
+    ∷ case 1 word-ab 2 (refused 2 0) [] (0 ∷ none ∷ none ∷ [])
+    ∷ case 1 word-aa 1 (accepted (1 ∷ [])) (2 ∷ []) (0 ∷ none ∷ 1 ∷ [])
+    ∷ case 1 word-aa 2 (accepted (1 ∷ [])) (2 ∷ []) (0 ∷ none ∷ 1 ∷ [])
+    ∷ case 1 word-aaaa 1 (accepted (1 ∷ [])) (4 ∷ []) (0 ∷ none ∷ 1 ∷ 1 ∷ 1 ∷ [])
+    ∷ case 1 word-aaaa 2 (accepted (2 ∷ [])) (2 ∷ 4 ∷ []) (0 ∷ none ∷ 1 ∷ 1 ∷ 2 ∷ [])
+    ∷ case 1 word-aaaaa 1 (accepted (1 ∷ [])) (5 ∷ []) (0 ∷ none ∷ 1 ∷ 1 ∷ 1 ∷ 1 ∷ [])
+    ∷ case 1 word-aaaaa 2 (accepted (2 ∷ [])) (2 ∷ 5 ∷ []) (0 ∷ none ∷ 1 ∷ 1 ∷ 2 ∷ 2 ∷ [])
+    ∷ case 1 word-ababa 1 (accepted (1 ∷ [])) (5 ∷ []) (0 ∷ none ∷ none ∷ none ∷ 1 ∷ 1 ∷ [])
+    ∷ case 1 word-ababa 2 (accepted (1 ∷ [])) (5 ∷ []) (0 ∷ none ∷ none ∷ none ∷ 1 ∷ 1 ∷ [])
+    ∷ case 1 word-baa 1 (refused 2 0) [] (0 ∷ none ∷ none ∷ none ∷ [])
+    ∷ case 1 word-baa 2 (refused 2 0) [] (0 ∷ none ∷ none ∷ none ∷ [])
+    ∷ case 1 word-aabb 1 (accepted (2 ∷ [])) (2 ∷ 4 ∷ []) (0 ∷ none ∷ 1 ∷ none ∷ 2 ∷ [])
+    ∷ case 1 word-aabb 2 (accepted (2 ∷ [])) (2 ∷ 4 ∷ []) (0 ∷ none ∷ 1 ∷ none ∷ 2 ∷ [])
+    ∷ case 1 word-aabaabaa 1 (accepted (1 ∷ [])) (8 ∷ []) (0 ∷ none ∷ 1 ∷ none ∷ none ∷ none ∷ 1 ∷ 1 ∷ 1 ∷ [])
+    ∷ case 1 word-aabaabaa 2 (accepted (2 ∷ [])) (2 ∷ 8 ∷ []) (0 ∷ none ∷ 1 ∷ none ∷ none ∷ none ∷ 1 ∷ 1 ∷ 2 ∷ [])
     ∷ []
 
 -- CLAIM: the starred cases, answer, ends and working table
 pub starred-hold : T (all starred)
-unfolding bestOutcome bestEndsTable bestWork cell bestEnds sizes repetition? smallestPeriod
+unfolding bestOutcome bestEndsTable bestWork cell bestEnds sizes repetition? smallestPeriod badEdition? turnsOf
 starred-hold = tt
+
+-- the same sequences in edition 2, and two more of equal symbols: "In edition 2 a block has length ≥ 3 × unit"
+abbrev pub starred-in-2 : List Case
+starred-in-2 =
+    case 2 word-empty 1 (accepted (0 ∷ [])) [] (0 ∷ [])
+    ∷ case 2 word-empty 2 (accepted (0 ∷ [])) [] (0 ∷ [])
+    ∷ case 2 word-a 1 (refused 2 0) [] (0 ∷ none ∷ [])
+    ∷ case 2 word-a 2 (refused 2 0) [] (0 ∷ none ∷ [])
+    ∷ case 2 word-ab 1 (refused 2 0) [] (0 ∷ none ∷ none ∷ [])
+    ∷ case 2 word-ab 2 (refused 2 0) [] (0 ∷ none ∷ none ∷ [])
+    ∷ case 2 word-aa 1 (refused 2 0) [] (0 ∷ none ∷ none ∷ [])
+    ∷ case 2 word-aa 2 (refused 2 0) [] (0 ∷ none ∷ none ∷ [])
+    ∷ case 2 word-aaa 1 (accepted (1 ∷ [])) (3 ∷ []) (0 ∷ none ∷ none ∷ 1 ∷ [])
+    ∷ case 2 word-aaa 2 (accepted (1 ∷ [])) (3 ∷ []) (0 ∷ none ∷ none ∷ 1 ∷ [])
+    ∷ case 2 word-aaaa 1 (accepted (1 ∷ [])) (4 ∷ []) (0 ∷ none ∷ none ∷ 1 ∷ 1 ∷ [])
+    ∷ case 2 word-aaaa 2 (accepted (1 ∷ [])) (4 ∷ []) (0 ∷ none ∷ none ∷ 1 ∷ 1 ∷ [])
+    ∷ case 2 word-aaaaa 1 (accepted (1 ∷ [])) (5 ∷ []) (0 ∷ none ∷ none ∷ 1 ∷ 1 ∷ 1 ∷ [])
+    ∷ case 2 word-aaaaa 2 (accepted (1 ∷ [])) (5 ∷ []) (0 ∷ none ∷ none ∷ 1 ∷ 1 ∷ 1 ∷ [])
+    ∷ case 2 word-aaaaaa 1 (accepted (1 ∷ [])) (6 ∷ []) (0 ∷ none ∷ none ∷ 1 ∷ 1 ∷ 1 ∷ 1 ∷ [])
+    ∷ case 2 word-aaaaaa 2 (accepted (2 ∷ [])) (3 ∷ 6 ∷ []) (0 ∷ none ∷ none ∷ 1 ∷ 1 ∷ 1 ∷ 2 ∷ [])
+    ∷ case 2 word-ababa 1 (refused 2 0) [] (0 ∷ none ∷ none ∷ none ∷ none ∷ none ∷ [])
+    ∷ case 2 word-ababa 2 (refused 2 0) [] (0 ∷ none ∷ none ∷ none ∷ none ∷ none ∷ [])
+    ∷ case 2 word-baa 1 (refused 2 0) [] (0 ∷ none ∷ none ∷ none ∷ [])
+    ∷ case 2 word-baa 2 (refused 2 0) [] (0 ∷ none ∷ none ∷ none ∷ [])
+    ∷ case 2 word-aabb 1 (refused 2 0) [] (0 ∷ none ∷ none ∷ none ∷ none ∷ [])
+    ∷ case 2 word-aabb 2 (refused 2 0) [] (0 ∷ none ∷ none ∷ none ∷ none ∷ [])
+    ∷ case 2 word-aabaabaa 1 (refused 2 0) [] (0 ∷ none ∷ none ∷ none ∷ none ∷ none ∷ none ∷ none ∷ none ∷ [])
+    ∷ case 2 word-aabaabaa 2 (refused 2 0) [] (0 ∷ none ∷ none ∷ none ∷ none ∷ none ∷ none ∷ none ∷ none ∷ [])
+    ∷ []
+
+-- CLAIM: the same in edition 2
+pub starred-in-2-hold : T (all starred-in-2)
+unfolding bestOutcome bestEndsTable bestWork cell bestEnds sizes repetition? smallestPeriod badEdition? turnsOf
+starred-in-2-hold = tt
 
 -- ---- the two longest sequences of letters
 
-pub fewest-of-001 : bestOutcome word-abaabaababaabaabababa 1 (replicate 4 7) (replicate 88 9) ≡ accepted (2 ∷ [])
-unfolding bestOutcome cell repetition? smallestPeriod
+pub fewest-of-001 : bestOutcome word-abaabaababaabaabababa 1 1 (replicate 4 7) (replicate 88 9) ≡ accepted (2 ∷ [])
+unfolding bestOutcome cell repetition? smallestPeriod badEdition? turnsOf
 fewest-of-001 = refl
 
-pub fewest-ends-of-001 : bestEndsTable word-abaabaababaabaabababa 1 (replicate 4 7) (replicate 88 9) ≡ 16 ∷ 21 ∷ 7 ∷ 7 ∷ []
-unfolding bestEndsTable cell bestEnds repetition? smallestPeriod
+pub fewest-ends-of-001 : bestEndsTable word-abaabaababaabaabababa 1 1 (replicate 4 7) (replicate 88 9) ≡ 16 ∷ 21 ∷ 7 ∷ 7 ∷ []
+unfolding bestEndsTable cell bestEnds repetition? smallestPeriod badEdition? turnsOf
 fewest-ends-of-001 = refl
 
-pub most-of-001 : bestOutcome word-abaabaababaabaabababa 2 (replicate 4 7) (replicate 88 9) ≡ accepted (4 ∷ [])
-unfolding bestOutcome cell repetition? smallestPeriod
+pub most-of-001 : bestOutcome word-abaabaababaabaabababa 1 2 (replicate 4 7) (replicate 88 9) ≡ accepted (4 ∷ [])
+unfolding bestOutcome cell repetition? smallestPeriod badEdition? turnsOf
 most-of-001 = refl
 
-pub most-ends-of-001 : bestEndsTable word-abaabaababaabaabababa 2 (replicate 4 7) (replicate 88 9) ≡ 6 ∷ 10 ∷ 16 ∷ 21 ∷ []
-unfolding bestEndsTable cell bestEnds repetition? smallestPeriod
+pub most-ends-of-001 : bestEndsTable word-abaabaababaabaabababa 1 2 (replicate 4 7) (replicate 88 9) ≡ 6 ∷ 10 ∷ 16 ∷ 21 ∷ []
+unfolding bestEndsTable cell bestEnds repetition? smallestPeriod badEdition? turnsOf
 most-ends-of-001 = refl
 
-pub fewest-of-000 : bestOutcome word-aabaabaacbbcbbcbb 1 (replicate 4 7) (replicate 72 9) ≡ accepted (2 ∷ [])
-unfolding bestOutcome cell repetition? smallestPeriod
+pub fewest-of-000 : bestOutcome word-aabaabaacbbcbbcbb 1 1 (replicate 4 7) (replicate 72 9) ≡ accepted (2 ∷ [])
+unfolding bestOutcome cell repetition? smallestPeriod badEdition? turnsOf
 fewest-of-000 = refl
 
-pub fewest-ends-of-000 : bestEndsTable word-aabaabaacbbcbbcbb 1 (replicate 4 7) (replicate 72 9) ≡ 8 ∷ 17 ∷ 7 ∷ 7 ∷ []
-unfolding bestEndsTable cell bestEnds repetition? smallestPeriod
+pub fewest-ends-of-000 : bestEndsTable word-aabaabaacbbcbbcbb 1 1 (replicate 4 7) (replicate 72 9) ≡ 8 ∷ 17 ∷ 7 ∷ 7 ∷ []
+unfolding bestEndsTable cell bestEnds repetition? smallestPeriod badEdition? turnsOf
 fewest-ends-of-000 = refl
 
-pub most-of-000 : bestOutcome word-aabaabaacbbcbbcbb 2 (replicate 4 7) (replicate 72 9) ≡ accepted (4 ∷ [])
-unfolding bestOutcome cell repetition? smallestPeriod
+pub most-of-000 : bestOutcome word-aabaabaacbbcbbcbb 1 2 (replicate 4 7) (replicate 72 9) ≡ accepted (4 ∷ [])
+unfolding bestOutcome cell repetition? smallestPeriod badEdition? turnsOf
 most-of-000 = refl
 
-pub most-ends-of-000 : bestEndsTable word-aabaabaacbbcbbcbb 2 (replicate 4 7) (replicate 72 9) ≡ 2 ∷ 8 ∷ 15 ∷ 17 ∷ []
-unfolding bestEndsTable cell bestEnds repetition? smallestPeriod
+pub most-ends-of-000 : bestEndsTable word-aabaabaacbbcbbcbb 1 2 (replicate 4 7) (replicate 72 9) ≡ 2 ∷ 8 ∷ 15 ∷ 17 ∷ []
+unfolding bestEndsTable cell bestEnds repetition? smallestPeriod badEdition? turnsOf
 most-ends-of-000 = refl
 
 -- ---- refusals of best split
 
 -- "4,097 passes": 1 comes first, and both tables stay
-pub best-too-long-first : bestOutcome (replicate 4097 97) 0 [] [] ≡ refused 1 0
-unfolding bestOutcome
+pub best-too-long-first : bestOutcome (replicate 4097 97) 1 0 [] [] ≡ refused 1 0
+unfolding bestOutcome badEdition? turnsOf
 best-too-long-first = refl
 
-pub best-too-long-ends : bestEndsTable (replicate 4097 97) 1 (7 ∷ []) (9 ∷ []) ≡ 7 ∷ []
-unfolding bestEndsTable
+pub best-too-long-ends : bestEndsTable (replicate 4097 97) 1 1 (7 ∷ []) (9 ∷ []) ≡ 7 ∷ []
+unfolding bestEndsTable badEdition? turnsOf
 best-too-long-ends = refl
 
-pub best-too-long-work : bestWork (replicate 4097 97) 1 (9 ∷ []) ≡ 9 ∷ []
-unfolding bestWork
+pub best-too-long-work : bestWork (replicate 4097 97) 1 1 (9 ∷ []) ≡ 9 ∷ []
+unfolding bestWork badEdition? turnsOf
 best-too-long-work = refl
 
-pub best-choice-zero : bestOutcome word-aaaa 0 [] [] ≡ refused 8 0
-unfolding bestOutcome
+pub best-choice-zero : bestOutcome word-aaaa 1 0 [] [] ≡ refused 8 0
+unfolding bestOutcome badEdition? turnsOf
 best-choice-zero = refl
 
-pub best-choice-three : bestOutcome word-aaaa 3 [] [] ≡ refused 8 0
-unfolding bestOutcome
+pub best-choice-three : bestOutcome word-aaaa 1 3 [] [] ≡ refused 8 0
+unfolding bestOutcome badEdition? turnsOf
 best-choice-three = refl
 
--- "9: a working table under 4×(n+1) places"
-pub best-table-a-place-short : bestOutcome word-aa 1 (7 ∷ []) (replicate 11 9) ≡ refused 9 0
+-- "12, an edition other than 1 or 2, directly after 1": after 1, before 8, and both tables stay
+pub best-edition-0 : bestOutcome word-aaaa 0 0 [] [] ≡ refused 12 0
+unfolding bestOutcome badEdition?
+best-edition-0 = refl
+
+pub best-edition-3 : bestOutcome word-aaaa 3 3 [] [] ≡ refused 12 0
+unfolding bestOutcome badEdition?
+best-edition-3 = refl
+
+pub best-too-long-before-edition : bestOutcome (replicate 4097 97) 3 1 [] [] ≡ refused 1 0
 unfolding bestOutcome
+best-too-long-before-edition = refl
+
+pub best-edition-3-ends : bestEndsTable word-aa 3 1 (7 ∷ []) (replicate 12 9) ≡ 7 ∷ []
+unfolding bestEndsTable badEdition?
+best-edition-3-ends = refl
+
+pub best-edition-3-work : bestWork word-aa 3 1 (replicate 12 9) ≡ replicate 12 9
+unfolding bestWork badEdition?
+best-edition-3-work = refl
+
+-- "9: a working table under 4×(n+1) places"
+pub best-table-a-place-short : bestOutcome word-aa 1 1 (7 ∷ []) (replicate 11 9) ≡ refused 9 0
+unfolding bestOutcome badEdition? turnsOf
 best-table-a-place-short = refl
 
 -- no split comes before too few places
-pub best-no-split-first : bestOutcome word-ab 1 [] (replicate 12 9) ≡ refused 2 0
-unfolding bestOutcome cell repetition? smallestPeriod
+pub best-no-split-first : bestOutcome word-ab 1 1 [] (replicate 12 9) ≡ refused 2 0
+unfolding bestOutcome cell repetition? smallestPeriod badEdition? turnsOf
 best-no-split-first = refl
 
 -- "7: fewer output places than the answer needs"; the ends' table stays, the working table does not
-pub best-a-place-short : bestOutcome word-aaaa 2 (7 ∷ []) (replicate 20 9) ≡ refused 7 0
-unfolding bestOutcome cell repetition? smallestPeriod
+pub best-a-place-short : bestOutcome word-aaaa 1 2 (7 ∷ []) (replicate 20 9) ≡ refused 7 0
+unfolding bestOutcome cell repetition? smallestPeriod badEdition? turnsOf
 best-a-place-short = refl
 
-pub best-a-place-short-ends : bestEndsTable word-aaaa 2 (7 ∷ []) (replicate 20 9) ≡ 7 ∷ []
-unfolding bestEndsTable cell bestEnds repetition? smallestPeriod
+pub best-a-place-short-ends : bestEndsTable word-aaaa 1 2 (7 ∷ []) (replicate 20 9) ≡ 7 ∷ []
+unfolding bestEndsTable cell bestEnds repetition? smallestPeriod badEdition? turnsOf
 best-a-place-short-ends = refl
 
-pub best-a-place-short-work : bestWork word-aaaa 2 (replicate 20 9) ≡ 0 ∷ none ∷ 1 ∷ 1 ∷ 2 ∷ replicate 15 0
-unfolding bestWork sizes repetition? smallestPeriod
+pub best-a-place-short-work : bestWork word-aaaa 1 2 (replicate 20 9) ≡ 0 ∷ none ∷ 1 ∷ 1 ∷ 2 ∷ replicate 15 0
+unfolding bestWork sizes repetition? smallestPeriod badEdition? turnsOf
 best-a-place-short-work = refl
 
 -- "4,294,967,295 where none exists", then 3×(n+1) zeros: ab has no split, nor has a
-pub best-none-is-the-number : bestWork word-ab 1 (replicate 12 9) ≡ 0 ∷ 4294967295 ∷ 4294967295 ∷ replicate 9 0
-unfolding bestWork cell sizes repetition? smallestPeriod
+pub best-none-is-the-number : bestWork word-ab 1 1 (replicate 12 9) ≡ 0 ∷ 4294967295 ∷ 4294967295 ∷ replicate 9 0
+unfolding bestWork cell sizes repetition? smallestPeriod badEdition? turnsOf
 best-none-is-the-number = refl
 
 -- ---- judged splits
 
 -- "Judged on aabaabaa: 3,8 gives 4 at index 1; 2,2,8 gives 3 at index 2; 2,9 gives 3 at index 2; no ends gives 5."
-pub judged-3-8 : splitOutcome word-aabaabaa (3 ∷ 8 ∷ []) ≡ refused 4 1
-unfolding splitOutcome verdict repetition? smallestPeriod
+pub judged-3-8 : splitOutcome word-aabaabaa 1 (3 ∷ 8 ∷ []) ≡ refused 4 1
+unfolding splitOutcome verdict repetition? smallestPeriod badEdition? turnsOf
 judged-3-8 = refl
 
-pub judged-2-2-8 : splitOutcome word-aabaabaa (2 ∷ 2 ∷ 8 ∷ []) ≡ refused 3 2
-unfolding splitOutcome verdict repetition? smallestPeriod
+pub judged-2-2-8 : splitOutcome word-aabaabaa 1 (2 ∷ 2 ∷ 8 ∷ []) ≡ refused 3 2
+unfolding splitOutcome verdict repetition? smallestPeriod badEdition? turnsOf
 judged-2-2-8 = refl
 
-pub judged-2-9 : splitOutcome word-aabaabaa (2 ∷ 9 ∷ []) ≡ refused 3 2
-unfolding splitOutcome verdict repetition? smallestPeriod
+pub judged-2-9 : splitOutcome word-aabaabaa 1 (2 ∷ 9 ∷ []) ≡ refused 3 2
+unfolding splitOutcome verdict repetition? smallestPeriod badEdition? turnsOf
 judged-2-9 = refl
 
-pub judged-no-ends : splitOutcome word-aabaabaa [] ≡ refused 5 0
-unfolding splitOutcome verdict
+pub judged-no-ends : splitOutcome word-aabaabaa 1 [] ≡ refused 5 0
+unfolding splitOutcome verdict badEdition? turnsOf
 judged-no-ends = refl
 
-pub judged-8 : splitOutcome word-aabaabaa (8 ∷ []) ≡ accepted (1 ∷ [])
-unfolding splitOutcome verdict repetition? smallestPeriod
+pub judged-8 : splitOutcome word-aabaabaa 1 (8 ∷ []) ≡ accepted (1 ∷ [])
+unfolding splitOutcome verdict repetition? smallestPeriod badEdition? turnsOf
 judged-8 = refl
 
-pub judged-2-8 : splitOutcome word-aabaabaa (2 ∷ 8 ∷ []) ≡ accepted (2 ∷ [])
-unfolding splitOutcome verdict repetition? smallestPeriod
+pub judged-2-8 : splitOutcome word-aabaabaa 1 (2 ∷ 8 ∷ []) ≡ accepted (2 ∷ [])
+unfolding splitOutcome verdict repetition? smallestPeriod badEdition? turnsOf
 judged-2-8 = refl
 
 -- the end of the leading part is not that of the word
-pub judged-2 : splitOutcome word-aabaabaa (2 ∷ []) ≡ refused 5 0
-unfolding splitOutcome verdict repetition? smallestPeriod
+pub judged-2 : splitOutcome word-aabaabaa 1 (2 ∷ []) ≡ refused 5 0
+unfolding splitOutcome verdict repetition? smallestPeriod badEdition? turnsOf
 judged-2 = refl
 
 -- "000 shows another largest split, of the same size 4"
-pub judged-other-largest : splitOutcome word-aabaabaacbbcbbcbb (6 ∷ 8 ∷ 15 ∷ 17 ∷ []) ≡ accepted (4 ∷ [])
-unfolding splitOutcome verdict repetition? smallestPeriod
+pub judged-other-largest : splitOutcome word-aabaabaacbbcbbcbb 1 (6 ∷ 8 ∷ 15 ∷ 17 ∷ []) ≡ accepted (4 ∷ [])
+unfolding splitOutcome verdict repetition? smallestPeriod badEdition? turnsOf
 judged-other-largest = refl
 
-pub judged-empty : splitOutcome [] [] ≡ accepted (0 ∷ [])
-unfolding splitOutcome verdict
+-- edition 2: three turns of a are a block, two are none
+pub judged-in-2 : splitOutcome word-aaaaaa 2 (3 ∷ 6 ∷ []) ≡ accepted (2 ∷ [])
+unfolding splitOutcome verdict repetition? smallestPeriod badEdition? turnsOf
+judged-in-2 = refl
+
+pub judged-two-turns-in-2 : splitOutcome word-aaaaaa 2 (2 ∷ 6 ∷ []) ≡ refused 4 1
+unfolding splitOutcome verdict repetition? smallestPeriod badEdition? turnsOf
+judged-two-turns-in-2 = refl
+
+-- one more b gives aabaabaa its third turn
+pub judged-aabaabaab-in-2 : splitOutcome (word-aabaabaa ++ (98 ∷ [])) 2 (9 ∷ []) ≡ accepted (1 ∷ [])
+unfolding splitOutcome verdict repetition? smallestPeriod badEdition? turnsOf
+judged-aabaabaab-in-2 = refl
+
+-- "12 ... directly after 1": before 3
+pub judged-edition-0 : splitOutcome word-aabaabaa 0 (0 ∷ []) ≡ refused 12 0
+unfolding splitOutcome badEdition?
+judged-edition-0 = refl
+
+pub judged-edition-3 : splitOutcome word-aabaabaa 3 [] ≡ refused 12 0
+unfolding splitOutcome badEdition?
+judged-edition-3 = refl
+
+pub judged-empty : splitOutcome [] 1 [] ≡ accepted (0 ∷ [])
+unfolding splitOutcome verdict badEdition? turnsOf
 judged-empty = refl
 
 -- ---- the tie rule
@@ -274,18 +354,18 @@ one-before-decides = inr (refl, inl (omega arith))
 
 -- "Taking the longest block each time: abaabaababaabaabababa then starts with 19 passes and is called unsplittable": its longest block at the start has 19,
 -- what is left is none, and there is a split (`fewest-of-001`)
-pub longest-first-is-19 : block? anyPeriod turns word-abaabaababaabaabababa 0 19 ≡ true
+pub longest-first-is-19 : block? anyPeriod 2 word-abaabaababaabaabababa 0 19 ≡ true
 unfolding repetition? smallestPeriod
 longest-first-is-19 = refl
 
-pub longest-first-not-20 : block? anyPeriod turns word-abaabaababaabaabababa 0 20 ≡ false
+pub longest-first-not-20 : block? anyPeriod 2 word-abaabaababaabaabababa 0 20 ≡ false
 unfolding repetition? smallestPeriod
 longest-first-not-20 = refl
 
-pub longest-first-not-21 : block? anyPeriod turns word-abaabaababaabaabababa 0 21 ≡ false
+pub longest-first-not-21 : block? anyPeriod 2 word-abaabaababaabaabababa 0 21 ≡ false
 unfolding repetition? smallestPeriod
 longest-first-not-21 = refl
 
-pub longest-first-fails : splitOutcome word-abaabaababaabaabababa (19 ∷ 21 ∷ []) ≡ refused 4 2
-unfolding splitOutcome verdict repetition? smallestPeriod
+pub longest-first-fails : splitOutcome word-abaabaababaabaabababa 1 (19 ∷ 21 ∷ []) ≡ refused 4 2
+unfolding splitOutcome verdict repetition? smallestPeriod badEdition? turnsOf
 longest-first-fails = refl

@@ -11,7 +11,7 @@ use lib.Dec.{leb}
 use lib.ListN.{length, getD, take, drop, replicate, length-take, length-drop, length-append, length-replicate, getD-replicate, List·getD-append}
 use lib.Seq.{take-take, drop-drop}
 use Rattle.answers.specs.Outcome.{limit}
-use Rattle.periods.specs.Period.{part, smallestPeriod, repetition?, prefixPeriods, anyPeriod, turns}
+use Rattle.periods.specs.Period.{part, smallestPeriod, repetition?, prefixPeriods, anyPeriod}
 use Rattle.periods.proofs.InPlace.{placed-part}
 use Rattle.periods.proofs.Claims.{prefix-periods-length, prefix-periods-at, prefix-periods-rise}
 use Rattle.periods.proofs.PartClaims.{repetition-any}
@@ -107,10 +107,10 @@ begun-from w t s z e f = rw (f, e) refl
 
 -- ---- the loop
 
-module _ (c : Choice) (w : List ℕ) where
+module _ (k : ℕ) (c : Choice) (w : List ℕ) where
   -- t₀ is the table when the loop starts, t before boundary j is taken
   pub record Filling (t₀ : List ℕ) (j : ℕ) (t : List ℕ) : Type 0 where
-    pub scanned : Scanned c (block? anyPeriod turns w) (length w) j t
+    pub scanned : Scanned c (block? anyPeriod k w) (length w) j t
     pub long : length t ≡ length t₀
     pub kept : drop (rows * (length w + 1)) t ≡ drop (rows * (length w + 1)) t₀
 
@@ -137,7 +137,7 @@ module _ (c : Choice) (w : List ℕ) where
 
     pub filling-starts : Filling (begun w t) 0 (begun w t)
     unfolding begun
-    filling-starts = record { scanned = scanned-start c (block? anyPeriod turns w) (length w) t (begun w t) below zero-row; long = refl; kept = refl }
+    filling-starts = record { scanned = scanned-start c (block? anyPeriod k w) (length w) t (begun w t) below zero-row; long = refl; kept = refl }
       where
         below : (i : ℕ) → i ≤ length w → getD (begun w t) i 0 ≡ getD (started (length w) t) i 0
         below i h =
@@ -145,16 +145,16 @@ module _ (c : Choice) (w : List ℕ) where
             (omega arith) (omega (arith, started-long)) row-fits i (omega arith)
 
         zero-row : (i : ℕ) → length w < i → i < second (length w) → getD (begun w t) i 0 ≡ 0
-        zero-row i h k =
+        zero-row i h l =
             lent-within (started (length w) t) (length w + 1) (second (length w)) (zeros (started (length w) t) (length w + 1) (second (length w)))
-            (omega arith) (omega (arith, started-long)) row-fits i (omega arith) k
+            (omega arith) (omega (arith, started-long)) row-fits i (omega arith) l
             ∙ getD-replicate (length (take (second (length w) - (length w + 1)) (drop (length w + 1) (started (length w) t)))) (i - (length w + 1)) 0 0
             (omega (arith, length-take (second (length w) - (length w + 1)) (drop (length w + 1) (started (length w) t)), length-drop (length w + 1) (started (length w) t), started-long))
 
   module _ (t₀ t : List ℕ) (j : ℕ) (F : Filling t₀ j t) (room : rows * (length w + 1) ≤ length t₀) (inside : j < length w) where
     pub filling-skips : getD t j 0 ≡ none → Filling t₀ (j + 1) t
     filling-skips e =
-        rw (add-one j) record { scanned = scanned-skip c (block? anyPeriod turns w) (length w) j t (omega arith) e (F .scanned); long = F .long; kept = F .kept }
+        rw (add-one j) record { scanned = scanned-skip c (block? anyPeriod k w) (length w) j t (omega arith) e (F .scanned); long = F .long; kept = F .kept }
 
     row-long : length (take (third (length w) - second (length w)) (drop (second (length w)) t)) ≡ third (length w) - second (length w)
     row-long = length-take (third (length w) - second (length w)) (drop (second (length w)) t) ∙ omega (arith, length-drop (second (length w)) t, F .long)
@@ -179,7 +179,7 @@ module _ (c : Choice) (w : List ℕ) where
         ∙ units-row-at w j (take (third (length w) - second (length w)) (drop (second (length w)) t)) d h
 
     pub laid-rises : (d e : ℕ) → d ≤ e → e < length w - j → getD (laid w j t) (placeOfUnit (length w) d) 0 ≤ getD (laid w j t) (placeOfUnit (length w) e) 0
-    laid-rises d e h k = omega (arith, laid-unit d (omega arith), laid-unit e (omega arith), parts-rise w j d e h (omega arith))
+    laid-rises d e h l = omega (arith, laid-unit d (omega arith), laid-unit e (omega arith), parts-rise w j d e h (omega arith))
 
     laid-same : (i : ℕ) → i < second (length w) → getD (laid w j t) i 0 ≡ getD t i 0
     unfolding laid
@@ -188,26 +188,26 @@ module _ (c : Choice) (w : List ℕ) where
         (omega arith) (omega (arith, F .long)) units-fit i h
 
     -- the test of the units decides where a block ends
-    laid-decides : (d : ℕ) → j + d < length w → longEnough turns (length w) (laid w j t) d ≡ block? anyPeriod turns w j (j + (d + 1))
+    laid-decides : (d : ℕ) → j + d < length w → longEnough k (length w) (laid w j t) d ≡ block? anyPeriod k w j (j + (d + 1))
     unfolding repetition?
     laid-decides d h =
         let s = part w j (j + (d + 1)) in
         let l : length s ≡ d + 1 = placed-part w j (j + (d + 1)) (omega arith) .long ∙ omega arith in
-        ap (λ (x : ℕ). leb (turns * x) (d + 1)) (laid-unit d h)
-        ∙ ap (λ (x : ℕ). leb (turns * smallestPeriod s) x) (sym l)
-        ∙ sym (repetition-any turns s (omega arith))
+        ap (λ (x : ℕ). leb (k * x) (d + 1)) (laid-unit d h)
+        ∙ ap (λ (x : ℕ). leb (k * smallestPeriod s) x) (sym l)
+        ∙ sym (repetition-any k s (omega arith))
         ∙ rw (le-leb (j + (d + 1)) (length w) (omega arith)) refl
 
     spreads : length w ≤ limit → (getD t j 0 ≡ none → ⊥)
-        → Filling t₀ (j + 1) (spread c (length w) j (getD t j 0 + 1) (longEnough turns (length w) (laid w j t)) (length w - j) (laid w j t))
+        → Filling t₀ (j + 1) (spread c (length w) j (getD t j 0 + 1) (longEnough k (length w) (laid w j t)) (length w - j) (laid w j t))
     unfolding laid
     spreads small some =
         rw (add-one j) record {
           scanned =
-              scanned-spread c (block? anyPeriod turns w) (length w) j (getD t j 0) (laid w j t) (longEnough turns (length w) (laid w j t)) (omega arith) (omega (arith, laid-long)) (omega arith)
-              (laid-same j (omega arith)) some laid-decides (scanned-same c (block? anyPeriod turns w) (length w) j t (laid w j t) laid-same (F .scanned));
-          long = length-spread c (length w) j (getD t j 0 + 1) (longEnough turns (length w) (laid w j t)) (laid w j t) (length w - j) ∙ laid-long;
-          kept = spread-drop c (length w) j (getD t j 0 + 1) (longEnough turns (length w) (laid w j t)) (laid w j t) (length w - j) (rows * (length w + 1)) (omega arith) (omega arith) ∙ laid-kept;
+              scanned-spread c (block? anyPeriod k w) (length w) j (getD t j 0) (laid w j t) (longEnough k (length w) (laid w j t)) (omega arith) (omega (arith, laid-long)) (omega arith)
+              (laid-same j (omega arith)) some laid-decides (scanned-same c (block? anyPeriod k w) (length w) j t (laid w j t) laid-same (F .scanned));
+          long = length-spread c (length w) j (getD t j 0 + 1) (longEnough k (length w) (laid w j t)) (laid w j t) (length w - j) ∙ laid-long;
+          kept = spread-drop c (length w) j (getD t j 0 + 1) (longEnough k (length w) (laid w j t)) (laid w j t) (length w - j) (rows * (length w + 1)) (omega arith) (omega arith) ∙ laid-kept;
         }
       where
         laid-kept : drop (rows * (length w + 1)) (laid w j t) ≡ drop (rows * (length w + 1)) t₀
@@ -217,19 +217,19 @@ module _ (c : Choice) (w : List ℕ) where
             ∙ F .kept
 
     pub filling-spreads : length w ≤ limit → (getD t j 0 ≡ none → ⊥) → (l r : List ℕ) → l ≡ laid w j t
-        → r ≡ spread c (length w) j (getD t j 0 + 1) (longEnough turns (length w) l) (length w - j) l → Filling t₀ (j + 1) r
+        → r ≡ spread c (length w) j (getD t j 0 + 1) (longEnough k (length w) l) (length w - j) l → Filling t₀ (j + 1) r
     filling-spreads small some l r e f = rw (f, e) (spreads small some)
 
   -- all boundaries taken, and rows 2 and 3 cleared
   pub filling-done : (t t₀ r : List ℕ) (j : ℕ) → rows * (length w + 1) ≤ length t → length t₀ ≡ length t → drop (rows * (length w + 1)) t₀ ≡ drop (rows * (length w + 1)) t
-      → j ≡ length w → Filling t₀ j r → lent r (second (length w)) (fourth (length w)) (zeros r (second (length w)) (fourth (length w))) ≡ filled c (block? anyPeriod turns w) (length w) t
-  filling-done t t₀ r j room l k at F =
-      let b = block? anyPeriod turns w in
+      → j ≡ length w → Filling t₀ j r → lent r (second (length w)) (fourth (length w)) (zeros r (second (length w)) (fourth (length w))) ≡ filled c (block? anyPeriod k w) (length w) t
+  filling-done t t₀ r j room l q at F =
+      let b = block? anyPeriod k w in
       let e : fourth (length w) - second (length w) ≡ 2 * (length w + 1) = omega arith in
       let z : length (take (fourth (length w) - second (length w)) (drop (second (length w)) r)) ≡ 2 * (length w + 1) =
       length-take (fourth (length w) - second (length w)) (drop (second (length w)) r) ∙ omega (arith, length-drop (second (length w)) r, F .long) in
       let d : drop (fourth (length w) - second (length w)) (drop (second (length w)) r) ≡ drop (rows * (length w + 1)) t =
-      drop-drop (fourth (length w) - second (length w)) (second (length w)) r ∙ ap (λ (x : ℕ). drop x r) (sums e) ∙ F .kept ∙ k in
+      drop-drop (fourth (length w) - second (length w)) (second (length w)) r ∙ ap (λ (x : ℕ). drop x r) (sums e) ∙ F .kept ∙ q in
       rw (scanned-rows c b (length w) r (omega (arith, F .long)) (subst (λ (x : ℕ). Scanned c b (length w) x r) at (F .scanned)), z, d)
       (append-assoc (sizes c b (length w)) (previous c b (length w)) (replicate (2 * (length w + 1)) 0 ++ drop (rows * (length w + 1)) t))
     where

@@ -9,44 +9,56 @@ use borrow.Author.Tests.{lt-ltb, le-ltb, le-leb}
 use lib.Dec.{leb}
 use lib.ListN.{length}
 use Rattle.answers.specs.Outcome.{Outcome, refused, limit}
-use Rattle.periods.specs.Period.{part, smallestPeriod, anyPeriod, turns}
+use Rattle.periods.specs.Period.{part, smallestPeriod, anyPeriod}
+use Rattle.periods.specs.Edition.{Edition, turnsOf}
+use Rattle.periods.proofs.Editions.{good-edition, edition?}
+use Rattle.periods.proofs.Editions as editions
 use Rattle.periods.proofs.InPlace.{placed-part}
 use Rattle.periods.proofs.PartClaims.{repetition-any}
 use Rattle.factors.specs.Verdict.{verdict}
 use Rattle.factors.proofs.VerdictClaims.{verdict-means, accepted-factorization}
 use Rattle.repetitions.specs.Block.{Block, block?}
-use Rattle.repetitions.specs.Judge.{splitOutcome, SplitJudged, SplitMeaning, too-long, judged}
+use Rattle.repetitions.specs.Judge.{splitOutcome, SplitJudged, SplitMeaning, too-long, bad-edition, judged}
 use Rattle.repetitions.proofs.Blocks.{block-sound, block-complete, block-up}
 
 -- ---- judge a split
 
-pub split-too-long : (w ends : List ℕ) → limit < length w → refused 1 0 ≡ splitOutcome w ends
-unfolding splitOutcome
-split-too-long w ends h = simp (lt-ltb limit (length w) h)
+module _ (w : List ℕ) (edition : ℕ) (ends : List ℕ) where
+  pub split-too-long : limit < length w → refused 1 0 ≡ splitOutcome w edition ends
+  unfolding splitOutcome
+  split-too-long h = simp (lt-ltb limit (length w) h)
 
-pub split-judged : (w ends : List ℕ) → length w ≤ limit → verdict (λ k. block? anyPeriod turns w) (length w) ends ≡ splitOutcome w ends
-unfolding splitOutcome
-split-judged w ends h = simp (le-ltb limit (length w) h)
+  pub split-bad-edition : length w ≤ limit → (Edition edition → ⊥) → refused 12 0 ≡ splitOutcome w edition ends
+  unfolding splitOutcome
+  split-bad-edition h i = simp (le-ltb limit (length w) h, editions.bad-edition edition i)
 
--- CLAIM: judge a split says what document 01 asks
-pub split-means : (w ends : List ℕ) → SplitMeaning w ends (splitOutcome w ends)
-split-means w ends = go (decLt limit (length w))
-  where
-    go : Dec (limit < length w) → SplitMeaning w ends (splitOutcome w ends)
-    go (yes h) = too-long h (sym (split-too-long w ends h))
-    go (no h) =
-        judged (omega arith)
-        (subst (SplitJudged w ends) (split-judged w ends (omega arith))
-        record {
-          verdict-on = verdict-means (λ k. block? anyPeriod turns w) (λ k. Block anyPeriod turns w) (λ k. block-sound anyPeriod turns w) (λ k. block-complete anyPeriod turns w) (length w) ends;
-          accepts = accepted-factorization (block? anyPeriod turns w) (Block anyPeriod turns w) (block-sound anyPeriod turns w) (block-complete anyPeriod turns w) (length w) (block-up anyPeriod turns w) ends;
-        })
+  pub split-judged : length w ≤ limit → Edition edition → verdict (λ m. block? anyPeriod (turnsOf edition) w) (length w) ends ≡ splitOutcome w edition ends
+  unfolding splitOutcome
+  split-judged h i = simp (le-ltb limit (length w) h, good-edition edition i)
 
-pub split-answered : (w ends : List ℕ) (o : Outcome) → o ≡ splitOutcome w ends → (o ≡ splitOutcome w ends) × SplitMeaning w ends o
-split-answered w ends o e = (e, subst (SplitMeaning w ends) (sym e) (split-means w ends))
+  -- CLAIM: judge a split says what the documents ask
+  pub split-means : SplitMeaning w edition ends (splitOutcome w edition ends)
+  split-means = go (decLt limit (length w)) (edition? edition)
+    where
+      k : ℕ
+      k = turnsOf edition
+
+      go : Dec (limit < length w) → Dec (Edition edition) → SplitMeaning w edition ends (splitOutcome w edition ends)
+      go (yes h) i = too-long h (sym (split-too-long h))
+      go (no h) (no i) = bad-edition (omega arith) i (sym (split-bad-edition (omega arith) i))
+      go (no h) (yes i) =
+          judged (omega arith) i
+          (subst (SplitJudged k w ends) (split-judged (omega arith) i)
+          record {
+            verdict-on = verdict-means (λ m. block? anyPeriod k w) (λ m. Block anyPeriod k w) (λ m. block-sound anyPeriod k w) (λ m. block-complete anyPeriod k w) (length w) ends;
+            accepts = accepted-factorization (block? anyPeriod k w) (Block anyPeriod k w) (block-sound anyPeriod k w) (block-complete anyPeriod k w) (length w) (block-up anyPeriod k w) ends;
+          })
+
+  pub split-answered : (o : Outcome) → o ≡ splitOutcome w edition ends → (o ≡ splitOutcome w edition ends) × SplitMeaning w edition ends o
+  split-answered o e = (e, subst (SplitMeaning w edition ends) (sym e) split-means)
 
 -- the test of a piece, from its unit
-pub block-test : (w : List ℕ) (i j u : ℕ) → i < j → j ≤ length w → u ≡ smallestPeriod (part w i j) → block? anyPeriod turns w i j ≡ leb (turns * u) (j - i)
-block-test w i j u a b e =
+pub block-test : (k : ℕ) (w : List ℕ) (i j u : ℕ) → i < j → j ≤ length w → u ≡ smallestPeriod (part w i j) → block? anyPeriod k w i j ≡ leb (k * u) (j - i)
+block-test k w i j u a b e =
     let l : length (part w i j) ≡ j - i = placed-part w i j b .long in
-    rw (le-leb j (length w) b) (repetition-any turns (part w i j) (omega (arith, l)) ∙ ap₂ (λ (x y : ℕ). leb (turns * x) y) (sym e) l)
+    rw (le-leb j (length w) b) (repetition-any k (part w i j) (omega (arith, l)) ∙ ap₂ (λ (x y : ℕ). leb (k * x) y) (sym e) l)

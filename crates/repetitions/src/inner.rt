@@ -3,7 +3,8 @@ ghost use mathlib.Core.Path.{_≡_};
 ghost use Prim.Native.Nat.{_≤_, _+_, _-_, _*_};
 ghost use lib.ListN.{length, getD};
 ghost use Rattle.answers.specs.Outcome.{countedView, limit};
-ghost use Rattle.periods.specs.Period.{anyPeriod, turns};
+ghost use Rattle.periods.specs.Period.{anyPeriod};
+ghost use Rattle.periods.specs.Edition.{Turns};
 ghost use Rattle.factors.specs.Factorization.{choiceOf};
 ghost use Rattle.factors.specs.Table.{rows, spread, filled};
 ghost use Rattle.repetitions.specs.Block.{block?};
@@ -16,8 +17,8 @@ use factors::NONE;
 // Offers a size from boundary j to each boundary at which a repetition that starts there ends. Row 2
 // has the units of the parts after boundary j; they never fall, so the first that is too long for
 // any part ends the work.
-fn spread(work: &mut [u32], n: usize, choice: u32, j: usize, size: u32)
-    requires { ⌜ (n ≤ limit) × (j ≤ n) × (rows * (n + 1) ≤ length (now work)) × UnitsRise n j (now work) ⌝ }
+fn spread(work: &mut [u32], n: usize, turns: usize, choice: u32, j: usize, size: u32)
+    requires { ⌜ (n ≤ limit) × (j ≤ n) × (rows * (n + 1) ≤ length (now work)) × UnitsRise n j (now work) × Turns turns ⌝ }
     ensures { λ _. ⌜ now (work .exit) ≡ spread (choiceOf choice) n j size (longEnough turns n (now (work .entry))) (n - j) (now (work .entry)) ⌝ }
 {
     let row = n + 1;
@@ -25,7 +26,7 @@ fn spread(work: &mut [u32], n: usize, choice: u32, j: usize, size: u32)
     let len = n - j;
     let mut d: usize = 0;
     while d < len {
-        let span = periods::TURNS * (work[units + d] as usize);
+        let span = turns * (work[units + d] as usize);
         if len < span {
             return;
         }
@@ -40,8 +41,8 @@ fn spread(work: &mut [u32], n: usize, choice: u32, j: usize, size: u32)
 
 // Fills the working table: the best size of each prefix length, and the previous boundary that it
 // came from. Boundaries in rising order; one that is not reached offers nothing.
-fn fill(w: &[u8], choice: u32, work: &mut [u32])
-    requires { ⌜ Workable (now w) (now work) ⌝ }
+fn fill(w: &[u8], turns: usize, choice: u32, work: &mut [u32])
+    requires { ⌜ Workable (now w) (now work) × Turns turns ⌝ }
     ensures { λ _. ⌜ now (work .exit) ≡ filled (choiceOf choice) (block? anyPeriod turns (now (w .entry))) (length (now (w .entry))) (now (work .entry)) ⌝ }
 {
     let n = w.len();
@@ -58,7 +59,7 @@ fn fill(w: &[u8], choice: u32, work: &mut [u32])
             continue;
         }
         periods::inner::units(&w[j..n], &mut work[two..three]);
-        spread(work, n, choice, j, size + 1);
+        spread(work, n, turns, choice, j, size + 1);
         j += 1;
     }
     let four = two + two;
@@ -85,16 +86,22 @@ fn hand_out(work: &[u32], n: usize, ends: &mut [u32]) -> Counted
     Counted::Count(size)
 }
 
-// Best split where 1, 8 and 9 are not met: fills the table, hands out the answer, and clears the row
-// of previous boundaries.
-pub(crate) fn settle(w: &[u8], choice: u32, ends: &mut [u32], work: &mut [u32]) -> Counted
-    requires { ⌜ Workable (now w) (now work) ⌝ }
-    ensures { λ r. ⌜ countedView r ≡ sizeOutcome (lastCell (now (w .entry)) choice) (length (now (ends .entry))) ⌝ }
-    ensures { λ _. ⌜ now (ends .exit) ≡ settledEnds (now (w .entry)) choice (now (ends .entry)) ⌝ }
-    ensures { λ _. ⌜ now (work .exit) ≡ settledWork (now (w .entry)) choice (now (work .entry)) ⌝ }
+// Best split where 1, 12, 8 and 9 are not met: fills the table, hands out the answer, and clears the
+// row of previous boundaries.
+pub(crate) fn settle(
+    w: &[u8],
+    turns: usize,
+    choice: u32,
+    ends: &mut [u32],
+    work: &mut [u32],
+) -> Counted
+    requires { ⌜ Workable (now w) (now work) × Turns turns ⌝ }
+    ensures { λ r. ⌜ countedView r ≡ sizeOutcome (lastCell turns (now (w .entry)) choice) (length (now (ends .entry))) ⌝ }
+    ensures { λ _. ⌜ now (ends .exit) ≡ settledEnds turns (now (w .entry)) choice (now (ends .entry)) ⌝ }
+    ensures { λ _. ⌜ now (work .exit) ≡ settledWork turns (now (w .entry)) choice (now (work .entry)) ⌝ }
 {
     let n = w.len();
-    fill(w, choice, work);
+    fill(w, turns, choice, work);
     let answer = hand_out(work, n, ends);
     let row = n + 1;
     let two = row + row;

@@ -11,17 +11,26 @@ use answers::Refusal;
 
 // Best split: choice 1 is fewest, 2 is most. Gives the size, and writes the ends of the
 // factorization of that size whose last block is longest, then the one before it, and so on. The
-// working table afterwards holds the best size of each prefix length. Refusals: 1, 8, 9, 2, 7.
+// working table afterwards holds the best size of each prefix length. Refusals: 1, 12, 8, 9, 2, 7.
 // Time: quadratic in the word's length at most. 192 bytes of stack, and 48 a block.
-pub fn best_split(w: &[u8], choice: u32, ends: &mut [u32], work: &mut [u32]) -> Counted
-    ensures answer { λ r. ⌜ countedView r ≡ bestOutcome (now (w .entry)) choice (now (ends .entry)) (now (work .entry)) ⌝ }
-    ensures written { λ r. ⌜ now (ends .exit) ≡ bestEndsTable (now (w .entry)) choice (now (ends .entry)) (now (work .entry)) ⌝ }
-    ensures worked { λ r. ⌜ now (work .exit) ≡ bestWork (now (w .entry)) choice (now (work .entry)) ⌝ }
-    ensures meaning { λ r. ⌜ BestMeaning (now (w .entry)) choice (now (ends .entry)) (now (work .entry)) (countedView r) (now (ends .exit)) (now (work .exit)) ⌝ }
+pub fn best_split(
+    w: &[u8],
+    edition: u32,
+    choice: u32,
+    ends: &mut [u32],
+    work: &mut [u32],
+) -> Counted
+    ensures answer { λ r. ⌜ countedView r ≡ bestOutcome (now (w .entry)) edition choice (now (ends .entry)) (now (work .entry)) ⌝ }
+    ensures written { λ r. ⌜ now (ends .exit) ≡ bestEndsTable (now (w .entry)) edition choice (now (ends .entry)) (now (work .entry)) ⌝ }
+    ensures worked { λ r. ⌜ now (work .exit) ≡ bestWork (now (w .entry)) edition choice (now (work .entry)) ⌝ }
+    ensures meaning { λ r. ⌜ BestMeaning (now (w .entry)) edition choice (now (ends .entry)) (now (work .entry)) (countedView r) (now (ends .exit)) (now (work .exit)) ⌝ }
 {
     let n = w.len();
     if answers::LIMIT < n {
         return Counted::Refused(Refusal::TooLong);
+    }
+    if periods::bad_edition(edition) {
+        return Counted::Refused(Refusal::BadEdition);
     }
     if choice < factors::FEWEST {
         return Counted::Refused(Refusal::BadChoice);
@@ -32,20 +41,25 @@ pub fn best_split(w: &[u8], choice: u32, ends: &mut [u32], work: &mut [u32]) -> 
     if work.len() < factors::ROWS * (n + 1) {
         return Counted::Refused(Refusal::ShortTable);
     }
-    inner::settle(w, choice, ends, work)
+    let turns = periods::turns(edition);
+    inner::settle(w, turns, choice, ends, work)
 }
 
 // Judge a split: accepted, with the number of blocks, exactly when the ends are those of a
-// factorization. Refusals: 1; then for each end in turn 3, 4; then 5. Time: quadratic in the word's
-// length at most.
-pub fn judge_split(w: &[u8], ends: &[u32]) -> Counted
-    ensures answer { λ r. ⌜ countedView r ≡ splitOutcome (now (w .entry)) (now (ends .entry)) ⌝ }
-    ensures meaning { λ r. ⌜ SplitMeaning (now (w .entry)) (now (ends .entry)) (countedView r) ⌝ }
+// factorization. Refusals: 1, 12; then for each end in turn 3, 4; then 5. Time: quadratic in the
+// word's length at most.
+pub fn judge_split(w: &[u8], edition: u32, ends: &[u32]) -> Counted
+    ensures answer { λ r. ⌜ countedView r ≡ splitOutcome (now (w .entry)) edition (now (ends .entry)) ⌝ }
+    ensures meaning { λ r. ⌜ SplitMeaning (now (w .entry)) edition (now (ends .entry)) (countedView r) ⌝ }
 {
     let n = w.len();
     if answers::LIMIT < n {
         return Counted::Refused(Refusal::TooLong);
     }
+    if periods::bad_edition(edition) {
+        return Counted::Refused(Refusal::BadEdition);
+    }
+    let turns = periods::turns(edition);
     let mut before: usize = 0;
     let mut k: usize = 0;
     while k < ends.len() {
@@ -55,7 +69,7 @@ pub fn judge_split(w: &[u8], ends: &[u32]) -> Counted
             return Counted::Refused(Refusal::BadEnd(number));
         }
         let unit = periods::smallest_period(&w[before..end]);
-        if end - before < periods::TURNS * unit {
+        if end - before < turns * unit {
             return Counted::Refused(Refusal::NotRepetition(number));
         }
         before = end;

@@ -7,7 +7,7 @@ use native.Mathlib.Omega.{arith}
 use borrow.Author.Tests.{lt-ltb, le-ltb}
 use lib.ListN.{length}
 use Rattle.answers.specs.Outcome.{Outcome}
-use Rattle.periods.specs.Period.{anyPeriod, turns}
+use Rattle.periods.specs.Period.{anyPeriod}
 use Rattle.runs.specs.Table.{runsOf}
 use Rattle.runs.proofs.Listed.{runs-listed}
 use Rattle.runs.proofs.Determined.{lists-unique}
@@ -15,7 +15,7 @@ use Rattle.factors.specs.Factorization.{Choice, smallest, largest, size}
 use Rattle.factors.proofs.Optimal.{best-unique}
 use Rattle.repetitions.specs.Block.{Block}
 use Rattle.finder.specs.Find.{recordLimit}
-use Rattle.report.specs.Text.{programLimit, fewestName, mostName, blockLines, text, reportOutcome, reportTable}
+use Rattle.report.specs.Text.{printedTurns, programLimit, fewestName, mostName, blockLines, text, reportOutcome, reportTable}
 use Rattle.writers.specs.Line.{line, printedOutcome, printedTable}
 use Rattle.report.specs.Meaning.{SplitPrinted, none-printed, best-printed, Printed, refused-alone, all-lines, Held, ReportMeaning, too-many-runs, too-few, reported}
 use Rattle.report.proofs.Reports.{Promised, promised-many, promised-text, text-printed}
@@ -25,7 +25,7 @@ split-printed-unique w c name s r (none-printed n e) (none-printed m f) = e ∙ 
 split-printed-unique w c name s r (none-printed n e) (best-printed fs C f) = absurd (n fs (C .factorization))
 split-printed-unique w c name s r (best-printed es B e) (none-printed m f) = absurd (m es (B .factorization))
 split-printed-unique w c name s r (best-printed es B e) (best-printed fs C f) =
-    e ∙ ap (λ (xs : List ℕ). line name (size xs ∷ []) ++ blockLines w 0 0 xs) (best-unique c (Block anyPeriod turns w) (length w) (size es) (size fs) es fs B C .1) ∙ sym f
+    e ∙ ap (λ (xs : List ℕ). line name (size xs ∷ []) ++ blockLines w 0 0 xs) (best-unique c (Block anyPeriod printedTurns w) (length w) (size es) (size fs) es fs B C .1) ∙ sym f
 
 -- CLAIM: a word has one text
 pub printed-unique : (w s r : List ℕ) → Printed w s → Printed w r → s ≡ r

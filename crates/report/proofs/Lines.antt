@@ -6,11 +6,13 @@ use mathlib.Core.Bool.{Bool, true, false, cond}
 use mathlib.Core.List.{List, [], _∷_, _++_, append-nil, append-assoc}
 use Prim.Native.Nat.{ℕ, zero, suc, _+_, _-_, _*_, _/_, _%_, _≤_, _<_}
 use native.Mathlib.Omega.{arith}
+use native.Mathlib.Nat.{mul-le-mul-right}
 use native.Mathlib.Numerals.{add-one}
 use lib.Dec.{eqb, eqb·suc-zero}
 use lib.ListN.{length, getD, take, drop, length-append, length-take, drop-of-length-le}
 use lib.Seq.{drop-cons}
-use Rattle.periods.specs.Period.{part, smallestPeriod, anyPeriod, turns}
+use Rattle.periods.specs.Period.{part, smallestPeriod, anyPeriod}
+use Rattle.periods.proofs.Editions.{two-turns}
 use Rattle.periods.proofs.Claims.{smallest-period-is, smallest-period-unique}
 use Rattle.runs.specs.declared.Record.{Record}
 use Rattle.runs.specs.Table.{runsOf, numbersOf, records, recordAt}
@@ -22,7 +24,7 @@ use Rattle.repetitions.specs.Block.{Block}
 use Rattle.runs.specs.Number.{encloses?, firstNumber, runNumber}
 use Rattle.repetitions.proofs.Blocks.{block-up}
 use Rattle.report.specs.Records.{runBytes, blockBytes}
-use Rattle.report.specs.Text.{runName, blockName, runLines, blockLine, blockLines}
+use Rattle.report.specs.Text.{printedEdition, printedTurns, runName, blockName, runLines, blockLine, blockLines}
 use Rattle.writers.specs.Line.{line}
 use Rattle.writers.proofs.Stores.{line-long}
 use Rattle.runs.proofs.Number.{run-numbered}
@@ -67,9 +69,9 @@ block-line-is w k i j unit run h e f =
     (ap (λ (n : ℕ). line blockName ((k + 1) ∷ suc i ∷ j ∷ p ∷ (n / p) ∷ (n % p) ∷ runNumber w i j ∷ [])) (sym (part-long w i j h)))
 
 -- its unit fits into it
-pub block-unit : (w : List ℕ) (i j unit : ℕ) → Block anyPeriod turns w i j → unit ≡ smallestPeriod (part w i j) → (1 ≤ unit) × (i + unit ≤ j) × (j ≤ length w)
+pub block-unit : (w : List ℕ) (i j unit : ℕ) → Block anyPeriod printedTurns w i j → unit ≡ smallestPeriod (part w i j) → (1 ≤ unit) × (i + unit ≤ j) × (j ≤ length w)
 block-unit w i j unit K e =
-    let u = block-up anyPeriod turns w i j K in
+    let u = block-up anyPeriod printedTurns w i j K in
     let l = part-long w i j (K .0) in
     let S = smallest-period-is (part w i j) (omega arith) in
     (omega (arith, S .period .positive), omega (arith, S .period .fits), K .0)
@@ -127,20 +129,20 @@ find-first i j p (r ∷ rs) h = go (find-first i j p rs) (encloses? i j p r) h
     go ih false k = later (firstNumber (encloses? i j p) rs) ih k
 
 -- a block is twice its unit or longer
-block-twice : (w : List ℕ) (i j : ℕ) → Block anyPeriod turns w i j → 2 * smallestPeriod (part w i j) ≤ length (part w i j)
-block-twice w i j K = omega (arith, K .1 .long, smallest-period-unique (part w i j) (K .1 .period) (K .1 .smallest))
+block-twice : (w : List ℕ) (i j : ℕ) → Block anyPeriod printedTurns w i j → 2 * smallestPeriod (part w i j) ≤ length (part w i j)
+block-twice w i j K = omega (arith, K .1 .long, mul-le-mul-right (K .1 .period) (two-turns printedEdition), smallest-period-unique (part w i j) (K .1 .period) (K .1 .smallest))
 
 -- CLAIM: the first record that encloses a block and has its unit is the block's run
-pub find-is-run-number : (w : List ℕ) (i j : ℕ) → Block anyPeriod turns w i j
+pub find-is-run-number : (w : List ℕ) (i j : ℕ) → Block anyPeriod printedTurns w i j
     → findRun (runsOf w) (i + 1) j (smallestPeriod (part w i j)) + 1 ≡ runNumber w i j
 unfolding runNumber
 find-is-run-number w i j K =
     let l = part-long w i j (K .0) in
-    let u = block-up anyPeriod turns w i j K in
+    let u = block-up anyPeriod printedTurns w i j K in
     find-first i j (smallestPeriod (part w i j)) (runsOf w) (run-numbered w i j (K .0) (omega arith) (block-twice w i j K))
 
 -- the same for what the finder gives over the records that are held
-pub found-is-run-number : (w : List ℕ) (rs : List Record) (count i j unit found : ℕ) → Block anyPeriod turns w i j → take count rs ≡ runsOf w
+pub found-is-run-number : (w : List ℕ) (rs : List Record) (count i j unit found : ℕ) → Block anyPeriod printedTurns w i j → take count rs ≡ runsOf w
     → unit ≡ smallestPeriod (part w i j) → found ≡ findRun (take count rs) (i + 1) j unit → found + 1 ≡ runNumber w i j
 found-is-run-number w rs count i j unit found K h e f =
     ap (λ (n : ℕ). n + 1) (f ∙ ap₂ (λ (l : List Record) (p : ℕ). findRun l (i + 1) j p) h e) ∙ find-is-run-number w i j K

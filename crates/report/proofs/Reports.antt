@@ -14,7 +14,7 @@ use Rattle.answers.specs.declared.Counted.{Counted}
 use Rattle.answers.specs.declared.Counted.the-variants.{Count, Refused}
 use Rattle.answers.specs.declared.Refusal.{Refusal}
 use Rattle.answers.specs.Outcome.{Outcome, accepted, refused, refusal, countedView, limit}
-use Rattle.periods.specs.Period.{anyPeriod, turns}
+use Rattle.periods.specs.Period.{anyPeriod}
 use Rattle.runs.specs.Table.{runsOf, stride, flat, records}
 use Rattle.runs.specs.Calls.{runsOutcome, runsTable}
 use Rattle.runs.proofs.Rows.{length-flat}
@@ -27,7 +27,7 @@ use Rattle.repetitions.specs.Block.{Block}
 use Rattle.repetitions.specs.BestSplit.{lastCell}
 use Rattle.repetitions.proofs.BestClaims.{word-answers}
 use Rattle.finder.specs.Find.{recordLimit}
-use Rattle.report.specs.Text.{programLimit, fewestName, mostName, refusedText, splitLines, splitText, text, reportOutcome, reportTable, tooMany}
+use Rattle.report.specs.Text.{printedTurns, programLimit, fewestName, mostName, refusedText, splitLines, splitText, text, reportOutcome, reportTable, tooMany}
 use Rattle.report.specs.Records.{longestText}
 use Rattle.writers.specs.Line.{printedOutcome, printedTable}
 use Rattle.report.specs.Meaning.{SplitPrinted, none-printed, best-printed, Printed, refused-alone, all-lines, Held, ReportMeaning, too-many-runs, too-few, reported}
@@ -109,9 +109,9 @@ module _ (w t : List ℕ) where
 
 split-printed : (w : List ℕ) (choice : ℕ) (name : List ℕ) → SplitPrinted w (choiceOf choice) name (splitText w choice name)
 unfolding splitText
-split-printed w choice name = go (lastCell w choice) (word-answers (choiceOf choice) w (length w))
+split-printed w choice name = go (lastCell printedTurns w choice) (word-answers printedTurns (choiceOf choice) w (length w))
   where
-    go : (v : Cell) → Answers (choiceOf choice) (Block anyPeriod turns w) (length w) v (endsOf w choice) → SplitPrinted w (choiceOf choice) name (splitLines w name v (endsOf w choice))
+    go : (v : Cell) → Answers (choiceOf choice) (Block anyPeriod printedTurns w) (length w) v (endsOf w choice) → SplitPrinted w (choiceOf choice) name (splitLines w name v (endsOf w choice))
     go unreachable A = none-printed A refl
     go (reached s p) A = best-printed (endsOf w choice) (rw (A .sized) A) (rw (A .sized) refl)
 

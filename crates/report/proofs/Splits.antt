@@ -1,6 +1,7 @@
--- What best split answers of a word that the program holds: 1, 8, 9 and 7 are never met, since a block has two symbols at least; so a refusal says that there
--- is no split, and an answer gives the ends. And how long the text can be. Assumes nothing.
+-- What best split answers of a word that the program holds: 1, 12, 8, 9 and 7 are never met, since a block has two symbols at least; so a refusal says that
+-- there is no split, and an answer gives the ends. And how long the text can be. Assumes nothing.
 use mathlib.Core.Path.{_≡_, refl, sym, ap, _∙_}
+use mathlib.Core.Logic.{inl}
 use mathlib.Core.List.{List, [], _∷_, _++_}
 use Prim.Native.Nat.{ℕ, _+_, _-_, _*_, _≤_}
 use native.Mathlib.Omega.{arith}
@@ -12,17 +13,18 @@ use Rattle.answers.specs.declared.Counted.the-variants.{Count, Refused}
 use Rattle.answers.specs.declared.Refusal.{Refusal}
 use Rattle.answers.specs.Outcome.{accepted, refusal, countedView}
 use Rattle.answers.proofs.Claims.{refused-accepted}
-use Rattle.periods.specs.Period.{anyPeriod, turns}
+use Rattle.periods.specs.Period.{anyPeriod}
 use Rattle.runs.specs.Table.{runsOf}
 use Rattle.factors.specs.Factorization.{Factorization, choiceOf, Cell, unreachable, reached, bestEnds}
 use Rattle.factors.specs.Table.{rows}
 use Rattle.factors.proofs.Optimal.{Answers}
 use Rattle.repetitions.specs.Block.{Block, block?}
 use Rattle.repetitions.specs.BestSplit.{sizeOutcome, sizeEnds, lastCell, bestOutcome, bestEndsTable}
+use Rattle.periods.proofs.Editions.{two-turns}
 use Rattle.repetitions.proofs.Blocks.{half}
 use Rattle.repetitions.proofs.BestClaims.{word-answers, promised-settled}
 use Rattle.finder.specs.Find.{recordLimit}
-use Rattle.report.specs.Text.{programLimit, passesName, fewestName, mostName, noneText, runLines, blockLines, splitLines, splitText, text}
+use Rattle.report.specs.Text.{printedEdition, printedTurns, programLimit, passesName, fewestName, mostName, noneText, runLines, blockLines, splitLines, splitText, text}
 use Rattle.writers.specs.Line.{line}
 use Rattle.report.specs.Records.{mostBlocks, splitBytes, longestText}
 use Rattle.writers.proofs.Stores.{line-long}
@@ -30,15 +32,15 @@ use Rattle.report.proofs.Lines.{run-lines-long, block-lines-long}
 
 -- the ends of the best split
 abbrev pub endsOf : List ℕ → ℕ → List ℕ
-endsOf w choice = bestEnds (choiceOf choice) (block? anyPeriod turns w) (length w)
+endsOf w choice = bestEnds (choiceOf choice) (block? anyPeriod printedTurns w) (length w)
 
 -- a split has at most half as many blocks as the word has symbols
-pub split-half : (w es : List ℕ) → Factorization (Block anyPeriod turns w) (length w) es → 2 * length es ≤ length w
-split-half w es F = omega (arith, half anyPeriod turns w (omega arith) 0 es (length w) F)
+pub split-half : (w es : List ℕ) → Factorization (Block anyPeriod printedTurns w) (length w) es → 2 * length es ≤ length w
+split-half w es F = omega (arith, half anyPeriod printedTurns w (two-turns printedEdition) 0 es (length w) F)
 
 -- an answer of so many blocks, with the ends' table x
 pub record Blocked (w : List ℕ) (choice : ℕ) (name : List ℕ) (size : ℕ) (x : List ℕ) : Type 0 where
-  pub split : Factorization (Block anyPeriod turns w) (length w) (endsOf w choice)
+  pub split : Factorization (Block anyPeriod printedTurns w) (length w) (endsOf w choice)
   pub few : 2 * size ≤ length w
   pub ends : take (size - 0) x ≡ endsOf w choice
   pub lines : line name (size ∷ []) ++ blockLines w 0 0 (endsOf w choice) ≡ splitText w choice name
@@ -47,12 +49,12 @@ module _ (w : List ℕ) (choice : ℕ) (name e t : List ℕ) (held : length w �
   room : rows * (length w + 1) ≤ length t
   room = omega arith
 
-  pub split-refused : (a : Counted) (r : Refusal) → a ≡ Refused r → countedView a ≡ bestOutcome w choice e t → name ++ noneText ≡ splitText w choice name
+  pub split-refused : (a : Counted) (r : Refusal) → a ≡ Refused r → countedView a ≡ bestOutcome w printedEdition choice e t → name ++ noneText ≡ splitText w choice name
   unfolding splitText
   split-refused a r is f =
-      go (lastCell w choice) (word-answers (choiceOf choice) w (length w)) (ap countedView (sym is) ∙ f ∙ sym (promised-settled w choice e t (omega arith) low high room .answer))
+      go (lastCell printedTurns w choice) (word-answers printedTurns (choiceOf choice) w (length w)) (ap countedView (sym is) ∙ f ∙ sym (promised-settled w printedEdition choice e t (omega arith) (inl refl) low high room .answer))
     where
-      go : (v : Cell) → Answers (choiceOf choice) (Block anyPeriod turns w) (length w) v (endsOf w choice) → refusal r ≡ sizeOutcome v (length e)
+      go : (v : Cell) → Answers (choiceOf choice) (Block anyPeriod printedTurns w) (length w) v (endsOf w choice) → refusal r ≡ sizeOutcome v (length e)
           → name ++ noneText ≡ splitLines w name v (endsOf w choice)
       go unreachable A f = refl
       go (reached s p) A f =
@@ -60,13 +62,13 @@ module _ (w : List ℕ) (choice : ℕ) (name e t : List ℕ) (held : length w �
           let z : refusal r ≡ accepted (s ∷ []) = rw (le-ltb (length e) s k) at f in
           absurd (refused-accepted (refusal r) _ _ (s ∷ []) refl z)
 
-  pub split-counted : (a : Counted) (size : ℕ) → a ≡ Count size → countedView a ≡ bestOutcome w choice e t → (x : List ℕ) → x ≡ bestEndsTable w choice e t → Blocked w choice name size x
+  pub split-counted : (a : Counted) (size : ℕ) → a ≡ Count size → countedView a ≡ bestOutcome w printedEdition choice e t → (x : List ℕ) → x ≡ bestEndsTable w printedEdition choice e t → Blocked w choice name size x
   unfolding splitText
   split-counted a size is f x g =
-      let P = promised-settled w choice e t (omega arith) low high room in
-      go (lastCell w choice) refl (word-answers (choiceOf choice) w (length w)) (ap countedView (sym is) ∙ f ∙ sym (P .answer)) (g ∙ sym (P .ends))
+      let P = promised-settled w printedEdition choice e t (omega arith) (inl refl) low high room in
+      go (lastCell printedTurns w choice) refl (word-answers printedTurns (choiceOf choice) w (length w)) (ap countedView (sym is) ∙ f ∙ sym (P .answer)) (g ∙ sym (P .ends))
     where
-      go : (v : Cell) → lastCell w choice ≡ v → Answers (choiceOf choice) (Block anyPeriod turns w) (length w) v (endsOf w choice) → accepted (size ∷ []) ≡ sizeOutcome v (length e)
+      go : (v : Cell) → lastCell printedTurns w choice ≡ v → Answers (choiceOf choice) (Block anyPeriod printedTurns w) (length w) v (endsOf w choice) → accepted (size ∷ []) ≡ sizeOutcome v (length e)
           → x ≡ sizeEnds v (endsOf w choice) e → Blocked w choice name size x
       go unreachable c A f g = absurd (refused-accepted (accepted (size ∷ [])) 2 0 (size ∷ []) f refl)
       go (reached s p) c A f g =
@@ -91,9 +93,9 @@ text-is w h = rw (le-ltb programLimit (length w) h) refl
 
 pub split-long : (w : List ℕ) (choice : ℕ) (name : List ℕ) → length w ≤ programLimit → length name ≤ 6 → length (splitText w choice name) ≤ splitBytes
 unfolding splitText
-split-long w choice name h k = go (lastCell w choice) (word-answers (choiceOf choice) w (length w))
+split-long w choice name h k = go (lastCell printedTurns w choice) (word-answers printedTurns (choiceOf choice) w (length w))
   where
-    go : (v : Cell) → Answers (choiceOf choice) (Block anyPeriod turns w) (length w) v (endsOf w choice) → length (splitLines w name v (endsOf w choice)) ≤ splitBytes
+    go : (v : Cell) → Answers (choiceOf choice) (Block anyPeriod printedTurns w) (length w) v (endsOf w choice) → length (splitLines w name v (endsOf w choice)) ≤ splitBytes
     go unreachable A = omega (arith, length-append name noneText)
     go (reached s p) A =
         omega (

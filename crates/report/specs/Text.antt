@@ -7,7 +7,8 @@ use lib.Dec.{ltb}
 use lib.ListN.{length, drop}
 use Rattle.answers.specs.declared.Refusal.the-variants.{TooFewPlaces}
 use Rattle.answers.specs.Outcome.{Outcome, accepted, refusal}
-use Rattle.periods.specs.Period.{part, smallestPeriod, anyPeriod, turns}
+use Rattle.periods.specs.Period.{part, smallestPeriod, anyPeriod}
+use Rattle.periods.specs.Edition.{turnsOf}
 use Rattle.runs.specs.declared.Record.{Record}
 use Rattle.runs.specs.Table.{runsOf, numbersOf}
 use Rattle.factors.specs.Factorization.{fewest, most, choiceOf, Cell, unreachable, reached, bestEnds}
@@ -20,6 +21,14 @@ use Rattle.finder.specs.Find.{recordLimit}
 -- "The program holds 1,024 passes"
 abbrev pub programLimit : ℕ
 programLimit = 1024
+
+-- "The bench program prints edition 1."
+abbrev pub printedEdition : ℕ
+printedEdition = 1
+
+-- the whole turns that the blocks have at least which it prints
+abbrev pub printedTurns : ℕ
+printedTurns = turnsOf printedEdition
 
 -- p a s s e s
 abbrev pub passesName : List ℕ
@@ -72,7 +81,7 @@ splitLines w name unreachable ends = name ++ noneText
 splitLines w name (reached s p) ends = line name (s ∷ []) ++ blockLines w 0 0 ends
 
 unfoldable pub splitText : List ℕ → ℕ → List ℕ → List ℕ
-splitText w choice name = splitLines w name (lastCell w choice) (bestEnds (choiceOf choice) (block? anyPeriod turns w) (length w))
+splitText w choice name = splitLines w name (lastCell printedTurns w choice) (bestEnds (choiceOf choice) (block? anyPeriod printedTurns w) (length w))
 
 -- "a longer line prints refused,1 alone"
 unfoldable pub text : List ℕ → List ℕ

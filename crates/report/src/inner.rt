@@ -6,14 +6,15 @@ ghost use Prim.Native.Nat.{_≤_, _<_, _+_, _*_, _^_};
 ghost use lib.ListN.{length, take};
 ghost use lib.Seq.{sets};
 ghost use Rattle.answers.specs.Outcome.{countedView};
-ghost use Rattle.periods.specs.Period.{anyPeriod, turns};
+ghost use Rattle.periods.specs.Period.{anyPeriod};
 ghost use Rattle.runs.specs.Table.{stride, runsOf, records};
 ghost use Rattle.factors.specs.Factorization.{Factorization, fewest, most};
 ghost use Rattle.repetitions.specs.Block.{Block};
 ghost use Rattle.writers.specs.Line.{printedOutcome, printedTable};
 ghost use Rattle.finder.specs.Find.{recordLimit};
-ghost use Rattle.report.specs.Text.{programLimit, refusedText, runLines, blockLine, blockLines, splitText, text};
+ghost use Rattle.report.specs.Text.{programLimit, printedTurns, refusedText, runLines, blockLine, blockLines, splitText, text};
 ghost use Rattle.report.specs.Records.{RunsHeld, RunsListed};
+use crate::EDITION;
 use crate::PROGRAM_LIMIT;
 use answers::Counted;
 use answers::Refusal;
@@ -55,7 +56,7 @@ fn block_line(
     out: &mut [u8],
     at: usize,
 ) -> usize
-    requires { ⌜ (at < 2 ^ 29) × (length (now w) ≤ programLimit) × (k ≤ before) × Block anyPeriod turns (now w) before end ⌝ }
+    requires { ⌜ (at < 2 ^ 29) × (length (now w) ≤ programLimit) × (k ≤ before) × Block anyPeriod printedTurns (now w) before end ⌝ }
     requires { ⌜ RunsHeld (now w) runs count ⌝ }
     ensures { λ r. ⌜ r ≡ at + length (blockLine (now (w .entry)) (k + 1) before end) ⌝ }
     ensures { λ _. ⌜ now (out .exit) ≡ sets (now (out .entry)) at (blockLine (now (w .entry)) (k + 1) before end) ⌝ }
@@ -84,7 +85,7 @@ fn block_lines(
     out: &mut [u8],
     at: usize,
 ) -> usize
-    requires { ⌜ (at < 2 ^ 20) × (length (now w) ≤ programLimit) × Factorization (Block anyPeriod turns (now w)) (length (now w)) (now ends) ⌝ }
+    requires { ⌜ (at < 2 ^ 20) × (length (now w) ≤ programLimit) × Factorization (Block anyPeriod printedTurns (now w)) (length (now w)) (now ends) ⌝ }
     requires { ⌜ RunsHeld (now w) runs count ⌝ }
     ensures { λ r. ⌜ r ≡ at + length (blockLines (now (w .entry)) 0 0 (now (ends .entry))) ⌝ }
     ensures { λ _. ⌜ now (out .exit) ≡ sets (now (out .entry)) at (blockLines (now (w .entry)) 0 0 (now (ends .entry))) ⌝ }
@@ -118,7 +119,7 @@ fn split_lines(
 {
     let mut ends = [0u32; MOST_BLOCKS];
     let mut work = [0u32; factors::ROWS * (PROGRAM_LIMIT + 1)];
-    let best = repetitions::best_split(w, choice, &mut ends, &mut work);
+    let best = repetitions::best_split(w, EDITION, choice, &mut ends, &mut work);
     match best {
         Counted::Refused(_) => {
             let next = writers::inner::put_text(out, at, name);

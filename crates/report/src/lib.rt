@@ -13,6 +13,9 @@ use answers::Refusal;
 // The longest word that the bench program takes.
 pub const PROGRAM_LIMIT: usize = 1024;
 
+// The edition whose splits it prints.
+pub const EDITION: u32 = periods::FIRST_EDITION;
+
 // No report has more bytes: longestText of specs/Records.antt.
 pub const LONGEST_REPORT: usize = 134198;
 

@@ -12,7 +12,7 @@ abbrev pub symbolAt : List ℕ → ℕ → ℕ
 symbolAt w i = getD w (i - 1) 0
 
 -- "A block, first to last with unit p, that cannot be lengthened: first = 1 or pass first−1 differs from pass first+p−1; last = n or pass last+1 differs
--- from pass last−p+1." Whatever a later edition asks of blocks, a run has two turns at least, and any period.
+-- from pass last−p+1." "Runs stay those of edition 1": whatever an edition asks of blocks, a run has two turns at least, and any period.
 pub record Run (w : List ℕ) (first last p : ℕ) : Type 0 where
   pub starts : 1 ≤ first
   pub ends : last ≤ length w

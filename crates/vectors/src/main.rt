@@ -1,14 +1,15 @@
-// Shows runs, nodes, best splits, the judges and paths on document 01's sequences, every refusal
-// of these calls with the tables before and after, and words from a small generator. What is lent
-// holds 7 in every place before the call; a list shows the lent places after it. Each line is
-// compared with the file stdout.
+// Shows runs, nodes, best splits, the judges and paths in both editions, on document 01's sequences
+// and some more, every refusal of these calls with the tables before and after, and words from a
+// small generator. What is lent holds 7 in every place before the call; a list shows the lent
+// places after it. Each line is compared with the file stdout.
 use answers::Counted;
 use decimals::COMMA;
 use show::field;
 use show::outcome;
 use show::text;
 
-// Which call a table of cases is for, and what the numbers of a row are.
+// Which call a table of cases is for, and what the numbers of a row are, behind the edition, which
+// stands first in every row but those of runs.
 enum Call {
     // the places that are lent
     Runs,
@@ -26,6 +27,7 @@ enum Call {
 }
 
 fn main() {
+    graph();
     splits();
     paths();
     long_words();
@@ -33,43 +35,90 @@ fn main() {
     generated();
 }
 
-fn splits() {
+// Edition 1 comes first in each table of cases, then edition 2, and then refusal 12, alone and
+// before each that it precedes.
+fn graph() {
     rows(
         Call::Runs,
         b"aabaabaa,14|aabaabaa,12|aabaabaa,11|aabaabaa,0|,0|,2|ab,1|aaaa,3|ababa,4|\
-        abaabaababaabaabababa,64|aabaabaacbbcbbcbb,64|",
+        abaabaababaabaabababa,64|aabaabaacbbcbbcbb,64|\
+        abababab,4|aaaaaabbbccc,10|aaaabababab,7|aaabaaabaaabaaa,16|",
     );
     rows(
         Call::Nodes,
-        b"aabaabaa,3,1|aabaabaa,3,2|aabaabaa,3,5|aabaabaa,1,6|aabaabaa,3,8|aabaabaa,2,8|\
-        aabaabaa,1,8|aabaabaa,3,0|aabaabaa,3,9|,0,1|aa,1,2|abaabaababaabaabababa,8,21|",
+        b"aabaabaa,1,3,1|aabaabaa,1,3,2|aabaabaa,1,3,5|aabaabaa,1,1,6|aabaabaa,1,3,8|\
+        aabaabaa,1,2,8|aabaabaa,1,1,8|aabaabaa,1,3,0|aabaabaa,1,3,9|,1,0,1|aa,1,1,2|\
+        abaabaababaabaabababa,1,8,21|\
+        abababab,1,2,3|abababab,1,2,4|abababab,1,2,5|abababab,1,2,6|abababab,1,2,8|abababab,1,0,5|\
+        abababab,2,2,3|abababab,2,2,4|abababab,2,2,5|abababab,2,2,6|abababab,2,2,7|abababab,2,2,8|\
+        abababab,2,0,5|abababab,2,0,6|abababab,2,2,0|abababab,2,2,9|,2,0,1|aaa,2,1,2|aaa,2,1,3|\
+        aabaabaa,2,3,8|aaabaaabaaabaaa,2,3,12|aaabaaabaaabaaa,2,3,14|aaabaaabaaabaaa,2,3,15|\
+        aaabaaabaaabaaa,2,1,15|abaabaababaabaabababa,2,8,9|abaabaababaabaabababa,2,8,21|\
+        abababab,0,2,8|abababab,3,2,8|abababab,4294967295,2,8|\
+        abababab,0,2,0|abababab,3,2,9|abababab,4294967295,0,8|",
     );
-    // The refusals in their order stand behind both choices; the working table afterwards shows
-    // whether it was used.
+}
+
+// For best the refusals in their order stand behind both choices of an edition; the working table
+// afterwards shows whether it was used.
+fn splits() {
     rows(
         Call::Best,
-        b"|a|ab|aa|aaaa|aaaaa|ababa|baa|aabb|aabaabaa|abaabaababaabaabababa|aabaabaacbbcbbcbb|\
-        aabaabaa,2,36,0|aabaabaa,2,36,3|aabaabaa,2,35,3|aabaabaa,2,35,1|aabaabaa,1,36,2|\
-        aabaabaa,2,36,2|baa,0,18,2|,0,3,1|,0,4,1|",
+        b",1|a,1|ab,1|aa,1|aaaa,1|aaaaa,1|ababa,1|baa,1|aabb,1|aabaabaa,1|\
+        abaabaababaabaabababa,1|aabaabaacbbcbbcbb,1|\
+        aabaabaa,1,2,36,0|aabaabaa,1,2,36,3|aabaabaa,1,2,35,3|aabaabaa,1,2,35,1|aabaabaa,1,1,36,2|\
+        aabaabaa,1,2,36,2|baa,1,0,18,2|,1,0,3,1|,1,0,4,1|\
+        ,2|a,2|ab,2|aa,2|aaaa,2|aaaaa,2|ababa,2|baa,2|aabb,2|aabaabaa,2|\
+        abaabaababaabaabababa,2|aabaabaacbbcbbcbb,2|\
+        aaa,2|aaaaaa,2|aaaaaaaa,2|baaa,2|aaabbb,2|ababab,2|abababab,2|aabaabaab,2|abababababab,2|\
+        aaaababab,2|aaaabababab,2|aaaaaabbbccc,2|aaabaaabaaabaaa,2|\
+        bbbaaaaaaaaaaaabaabaaba,2|aaaababababababaabaabaab,2|\
+        aaaaaa,2,2,28,0|aaaaaa,2,2,27,3|aaaaaa,2,2,27,1|aaaaaa,2,1,28,2|aaaaaa,2,2,28,2|\
+        ababa,2,0,24,1|,2,0,3,1|,2,0,4,1|\
+        aaa,0,1,16,1|aaa,3,1,16,2|aaa,4294967295,1,16,1|\
+        aaa,0,1,16,3|aaa,3,1,15,1|baa,4294967295,1,16,1|aaa,0,0,16,1|",
+    );
+    rows(
+        Call::Judge,
+        b"aabaabaa,1|aabaabaa,1,8|aabaabaa,1,2,8|aabaabaa,1,3,8|aabaabaa,1,2,2,8|aabaabaa,1,2,9|\
+        aabaabaa,1,2|aabaabaa,1,2,4,8|aabaabaa,1,0|aabaabaa,1,4294967295|,1|,1,1|\
+        aabaabaacbbcbbcbb,1,6,8,15,17|aabaabaacbbcbbcbb,1,2,8,15,17|\
+        abababab,1,4,8|aaaaaabbbccc,1,2,6,9,12|\
+        abababab,2,8|abababab,2,4,8|abababab,2,5|abababab,2,6|abababab,2,6,8|abababab,2,6,6|\
+        abababab,2,9|abababab,2|aabaabaa,2,8|aabaabaa,2,2,8|,2|\
+        aaaaaabbbccc,2,6,9,12|aaaaaabbbccc,2,3,6,9,12|aaaaaabbbccc,2,2,6,9,12|aaaaaabbbccc,2,6,12|\
+        aaaaaabbbccc,2,6,9,11,12|aaaabababab,2,3,11|aaaabababab,2,4,11|aaabaaabaaabaaa,2,12,15|\
+        abababab,0,8|abababab,3,8|abababab,4294967295,8|\
+        abababab,0,9|abababab,3,3,8|abababab,4294967295|",
     );
 }
 
 fn paths() {
     rows(
-        Call::Judge,
-        b"aabaabaa|aabaabaa,8|aabaabaa,2,8|aabaabaa,3,8|aabaabaa,2,2,8|aabaabaa,2,9|aabaabaa,2|\
-        aabaabaa,2,4,8|aabaabaa,0|aabaabaa,4294967295||,1|\
-        aabaabaacbbcbbcbb,6,8,15,17|aabaabaacbbcbbcbb,2,8,15,17|",
-    );
-    rows(
         Call::Path,
-        b"aabaabaa,2,8|aabaabaa,3,2,8|aabaabaa,2,2,8|aabaabaa,1,2,8|aabaabaa,1,3,8|aabaabaa,0,2,9|\
-        aabaabaa,3,2|aabaabaacbbcbbcbb,4,6,8,15,17|abaabaababaabaabababa,5,6,10,16,21|",
+        b"aabaabaa,1,2,8|aabaabaa,1,3,2,8|aabaabaa,1,2,2,8|aabaabaa,1,1,2,8|aabaabaa,1,1,3,8|\
+        aabaabaa,1,0,2,9|aabaabaa,1,3,2|aabaabaacbbcbbcbb,1,4,6,8,15,17|\
+        abaabaababaabaabababa,1,5,6,10,16,21|abababab,1,2,4,8|\
+        abababab,2,2,8|abababab,2,2,4,8|abababab,2,0,9|abababab,2,0,5|abababab,2,0,6|\
+        abababab,2,0,8|,2,1|aaaaaabbbccc,2,3,6,9,12|aaaaaabbbccc,2,5,3,6,9,12|\
+        aaaaaabbbccc,2,3,3,6,9,12|aaaabababab,2,2,3,11|aaaabababab,2,2,4,11|\
+        aaabaaabaaabaaa,2,2,3,15|aaabaaabaaabaaa,2,2,12,15|\
+        abababab,0,2,8|abababab,3,2,8|abababab,4294967295,2,8|\
+        abababab,0,2,9|abababab,3,2,3,8|abababab,4294967295,2|abababab,0,0,8|",
     );
     rows(
         Call::JudgePath,
-        b"aabaabaa,1,2,2,8|aabaabaa,2,8|aabaabaa,1,2,1,8|aabaabaa,1,2,9,8|aabaabaa,1,2,5,8|\
-        aabaabaa,0,8|aabaabaa,1,2,2|aabaabaa,1,2,2,2|aabaabaa,1,2,2,9|aabaabaa,1,2|aabaabaa||,1|",
+        b"aabaabaa,1,1,2,2,8|aabaabaa,1,2,8|aabaabaa,1,1,2,1,8|aabaabaa,1,1,2,9,8|\
+        aabaabaa,1,1,2,5,8|aabaabaa,1,0,8|aabaabaa,1,1,2,2|aabaabaa,1,1,2,2,2|aabaabaa,1,1,2,2,9|\
+        aabaabaa,1,1,2|aabaabaa,1|,1|,1,1|abababab,1,1,4,1,8|aaaaaabbbccc,1,1,6,2,9,3,12|\
+        abababab,2,1,8|abababab,2,1,4,1,8|abababab,2,1,5|abababab,2,1,6|abababab,2,1,6,1,8|\
+        abababab,2,1,6,1,6|abababab,2,1,9|abababab,2,2,8|abababab,2,0,8|abababab,2,1|abababab,2|,2|\
+        aabaabaa,2,2,8|aaaaaabbbccc,2,1,6,2,9,3,12|aaaaaabbbccc,2,1,3,1,6,2,9,3,12|\
+        aaaaaabbbccc,2,1,3,1,6,2,9,3,11|aaaaaabbbccc,2,1,2,1,6,2,9,3,12|aaaaaabbbccc,2,1,6,2,12|\
+        aaaabababab,2,1,3,2,11|aaaabababab,2,1,4,2,11|\
+        aaabaaabaaabaaa,2,2,15|aaabaaabaaabaaa,2,1,3,2,15|aaabaaabaaabaaa,2,2,12,5,15|\
+        abababab,0,1,8|abababab,3,1,8|abababab,4294967295,1,8|\
+        abababab,0,1|abababab,3,1,9|abababab,4294967295,2,8|abababab,0|",
     );
 }
 
@@ -82,47 +131,61 @@ fn rows(call: Call, table: &[u8]) {
     }
 }
 
+// The first number goes apart from the others; a row has at most ten.
 fn row(call: Call, row: &[u8]) {
     let zero: usize = 0;
-    let mut numbers = [0u32; 8];
+    let one: usize = 1;
+    let mut numbers = [0u32; 10];
     let count = show::cases::values(row, &mut numbers);
     let first = numbers[0];
     let end = show::cases::place(row, zero, COMMA);
-    ask(call, &row[zero..end], first, &numbers[zero..count]);
+    if one <= count {
+        ask(call, &row[zero..end], first, &numbers[one..count]);
+    }
 }
 
 fn ask(call: Call, w: &[u8], first: u32, numbers: &[u32]) {
     match call {
-        Call::Judge => judged(w, numbers),
-        Call::JudgePath => path_judged(w, numbers),
-        Call::Best => best(w, numbers),
-        Call::Runs => lend(call, w, first, numbers),
+        Call::Runs => runs_of(w, first),
         Call::Nodes => lend(call, w, first, numbers),
+        Call::Best => best(w, first, numbers),
+        Call::Judge => judged(w, first, numbers),
         Call::Path => lend(call, w, first, numbers),
+        Call::JudgePath => path_judged(w, first, numbers),
     }
 }
 
-fn judged(w: &[u8], ends: &[u32]) {
-    answered(b"judge,", w, repetitions::judge_split(w, ends));
+fn judged(w: &[u8], edition: u32, ends: &[u32]) {
+    answered(
+        b"judge,",
+        w,
+        edition,
+        repetitions::judge_split(w, edition, ends),
+    );
     list(b" ends", ends);
 }
 
-fn path_judged(w: &[u8], numbers: &[u32]) {
-    answered(b"judge path,", w, paths::judge_path(w, numbers));
+fn path_judged(w: &[u8], edition: u32, numbers: &[u32]) {
+    answered(
+        b"judge path,",
+        w,
+        edition,
+        paths::judge_path(w, edition, numbers),
+    );
     list(b" numbers", numbers);
 }
 
-fn best(w: &[u8], numbers: &[u32]) {
+fn best(w: &[u8], edition: u32, numbers: &[u32]) {
     if numbers.len() == 3 {
-        best_of(w, numbers[2], numbers[0], numbers[1]);
+        best_of(w, edition, numbers[2], numbers[0], numbers[1]);
     } else if w.len() <= 24 {
         let space = (4 * w.len() + 5) as u32;
-        best_of(w, 1, 12, space);
-        best_of(w, 2, 12, space);
+        best_of(w, edition, 1, 12, space);
+        best_of(w, edition, 2, 12, space);
     }
 }
 
-fn best_of(w: &[u8], choice: u32, places: u32, space: u32) {
+fn best_of(w: &[u8], edition: u32, choice: u32, places: u32, space: u32) {
     let mut ends = [7u32; 64];
     let mut work = [7u32; 128];
     let zero: usize = 0;
@@ -130,39 +193,59 @@ fn best_of(w: &[u8], choice: u32, places: u32, space: u32) {
     let end = space as usize;
     if places <= 64 {
         if space <= 128 {
-            best_in(w, choice, &mut ends[zero..last], &mut work[zero..end]);
+            best_in(
+                w,
+                edition,
+                choice,
+                &mut ends[zero..last],
+                &mut work[zero..end],
+            );
         }
     }
 }
 
-fn best_in(w: &[u8], choice: u32, ends: &mut [u32], work: &mut [u32]) {
+fn best_in(w: &[u8], edition: u32, choice: u32, ends: &mut [u32], work: &mut [u32]) {
     text(b"best,");
     text(w);
+    field(edition);
     field(choice);
-    outcome(repetitions::best_split(w, choice, ends, work));
+    outcome(repetitions::best_split(w, edition, choice, ends, work));
     list(b" ends", ends);
     list(b" work", work);
 }
 
-// Lends so many places, and passes on the numbers behind the first.
-fn lend(call: Call, w: &[u8], places: u32, numbers: &[u32]) {
+fn runs_of(w: &[u8], places: u32) {
     let mut table = [7u32; 64];
     let zero: usize = 0;
-    let one: usize = 1;
-    let end = numbers.len();
     let last = places as usize;
-    if one <= end {
-        if places <= 64 {
-            lent(call, w, places, &numbers[one..end], &mut table[zero..last]);
-        }
+    if places <= 64 {
+        runs_in(w, places, &mut table[zero..last]);
     }
 }
 
-fn lent(call: Call, w: &[u8], places: u32, numbers: &[u32], table: &mut [u32]) {
+// Lends as many places as the first of the numbers says, and passes on those behind it.
+fn lend(call: Call, w: &[u8], edition: u32, numbers: &[u32]) {
+    let one: usize = 1;
+    let end = numbers.len();
+    if one <= end {
+        lend_places(call, w, edition, numbers[0], &numbers[one..end]);
+    }
+}
+
+fn lend_places(call: Call, w: &[u8], edition: u32, places: u32, numbers: &[u32]) {
+    let mut table = [7u32; 64];
+    let zero: usize = 0;
+    let last = places as usize;
+    if places <= 64 {
+        lent(call, w, edition, places, numbers, &mut table[zero..last]);
+    }
+}
+
+fn lent(call: Call, w: &[u8], edition: u32, places: u32, numbers: &[u32], table: &mut [u32]) {
     match call {
-        Call::Runs => runs_in(w, places, table),
-        Call::Nodes => nodes_in(w, places, numbers, table),
-        Call::Path => path_in(w, numbers, table),
+        Call::Nodes => nodes_in(w, edition, places, numbers, table),
+        Call::Path => path_in(w, edition, numbers, table),
+        Call::Runs => {}
         Call::Best => {}
         Call::Judge => {}
         Call::JudgePath => {}
@@ -177,27 +260,34 @@ fn runs_in(w: &[u8], places: u32, table: &mut [u32]) {
     list(b"", table);
 }
 
-fn nodes_in(w: &[u8], places: u32, numbers: &[u32], table: &mut [u32]) {
+fn nodes_in(w: &[u8], edition: u32, places: u32, numbers: &[u32], table: &mut [u32]) {
     if numbers.len() == 1 {
         let position = numbers[0];
         text(b"nodes,");
         text(w);
+        field(edition);
         field(position);
         field(places);
-        outcome(nodes::nodes(w, position, table));
+        outcome(nodes::nodes(w, edition, position, table));
         list(b"", table);
     }
 }
 
-fn path_in(w: &[u8], ends: &[u32], table: &mut [u32]) {
-    answered(b"path,", w, paths::path_of_split(w, ends, table));
+fn path_in(w: &[u8], edition: u32, ends: &[u32], table: &mut [u32]) {
+    answered(
+        b"path,",
+        w,
+        edition,
+        paths::path_of_split(w, edition, ends, table),
+    );
     list(b" ends", ends);
     list(b" runs", table);
 }
 
-fn answered(name: &[u8], w: &[u8], answer: Counted) {
+fn answered(name: &[u8], w: &[u8], edition: u32, answer: Counted) {
     text(name);
     text(w);
+    field(edition);
     outcome(answer);
 }
 
@@ -221,69 +311,115 @@ fn part(name: &[u8], xs: &[u32], from: usize, to: usize) {
 // 4,096 equal symbols.
 fn long_words() {
     let w = [97u8; 4096];
-    long_fewest(&w);
-    long_most(&w);
     let mut ends = [7u32; 2047];
-    let mut work = [7u32; 16389];
-    text(b"4096 equal, one place too few");
-    outcome(repetitions::best_split(&w, 2, &mut ends, &mut work));
-    text(b"\n");
+    let mut fewer = [7u32; 1364];
+    long_fewest(&w, 1);
+    long_most(&w, 1, 2046, 2049);
+    long_refused(&w, 1, &mut ends);
+    long_fewest(&w, 2);
+    long_most(&w, 2, 1363, 1366);
+    long_refused(&w, 2, &mut fewer);
 }
 
-fn long_fewest(w: &[u8]) {
+fn long_fewest(w: &[u8], edition: u32) {
     let mut ends = [7u32; 2049];
     let mut work = [7u32; 16389];
-    text(b"4096 equal, fewest");
-    outcome(repetitions::best_split(w, 1, &mut ends, &mut work));
+    named(
+        b"4096 equal",
+        edition,
+        b", fewest",
+        repetitions::best_split(w, edition, 1, &mut ends, &mut work),
+    );
     part(b" ends", &ends, 0, 3);
 }
 
-fn long_most(w: &[u8]) {
+// The last ends are those at the places from one up to another.
+fn long_most(w: &[u8], edition: u32, from: usize, to: usize) {
     let mut ends = [7u32; 2049];
     let mut work = [7u32; 16389];
-    text(b"4096 equal, most");
-    outcome(repetitions::best_split(w, 2, &mut ends, &mut work));
+    named(
+        b"4096 equal",
+        edition,
+        b", most",
+        repetitions::best_split(w, edition, 2, &mut ends, &mut work),
+    );
     part(b" ends", &ends, 0, 3);
-    part(b" last ends", &ends, 2046, 2049);
+    part(b" last ends", &ends, from, to);
     part(b" sizes", &work, 4094, 4099);
 }
 
-// One symbol more: refusal 1 comes first in every call.
-fn too_long() {
-    let w = [97u8; 4097];
-    let mut table = [7u32; 4];
-    let mut ends = [7u32; 4];
-    long_splits(&w, &mut table, &mut ends);
-    long_paths(&w, &mut table);
-}
-
-fn long_splits(w: &[u8], table: &mut [u32], ends: &mut [u32]) {
-    tabled(b"4097 equal, runs", runs::runs(w, table), table);
-    tabled(b"4097 equal, nodes", nodes::nodes(w, 0, table), table);
-    tabled(
-        b"4097 equal, best",
-        repetitions::best_split(w, 0, ends, table),
-        table,
+fn long_refused(w: &[u8], edition: u32, ends: &mut [u32]) {
+    let mut work = [7u32; 16389];
+    named(
+        b"4096 equal",
+        edition,
+        b", one place too few",
+        repetitions::best_split(w, edition, 2, ends, &mut work),
     );
-}
-
-fn long_paths(w: &[u8], table: &mut [u32]) {
-    text(b"4097 equal, judge");
-    outcome(repetitions::judge_split(w, &[0]));
-    tabled(
-        b"\n4097 equal, path",
-        paths::path_of_split(w, &[0], table),
-        table,
-    );
-    text(b"4097 equal, judge path");
-    outcome(paths::judge_path(w, &[0]));
     text(b"\n");
 }
 
-fn tabled(name: &[u8], answer: Counted, table: &[u32]) {
+// One symbol more: refusal 1 comes first in every call, before 12 too.
+fn too_long() {
+    let w = [97u8; 4097];
+    let mut table = [7u32; 4];
+    text(b"4097 equal, runs");
+    outcome(runs::runs(&w, &mut table));
+    list(b"", &table);
+    too_long_in(&w, 1);
+    too_long_in(&w, 2);
+    too_long_in(&w, 0);
+}
+
+fn too_long_in(w: &[u8], edition: u32) {
+    let mut table = [7u32; 4];
+    let mut ends = [7u32; 4];
+    long_splits(w, edition, &mut table, &mut ends);
+    long_paths(w, edition, &mut table);
+}
+
+fn long_splits(w: &[u8], edition: u32, table: &mut [u32], ends: &mut [u32]) {
+    over(edition, b", nodes", nodes::nodes(w, edition, 0, table));
+    list(b"", table);
+    over(
+        edition,
+        b", best",
+        repetitions::best_split(w, edition, 0, ends, table),
+    );
+    list(b"", table);
+    over(
+        edition,
+        b", judge",
+        repetitions::judge_split(w, edition, &[0]),
+    );
+    text(b"\n");
+}
+
+fn long_paths(w: &[u8], edition: u32, table: &mut [u32]) {
+    over(
+        edition,
+        b", path",
+        paths::path_of_split(w, edition, &[0], table),
+    );
+    list(b"", table);
+    over(
+        edition,
+        b", judge path",
+        paths::judge_path(w, edition, &[0]),
+    );
+    text(b"\n");
+}
+
+fn over(edition: u32, name: &[u8], answer: Counted) {
+    named(b"4097 equal", edition, name, answer);
+}
+
+// The word, the edition, a name and the answer.
+fn named(w: &[u8], edition: u32, name: &[u8], answer: Counted) {
+    text(w);
+    field(edition);
     text(name);
     outcome(answer);
-    list(b"", table);
 }
 
 // Words of a linear congruential generator: lengths from 1 to 24, over 2 or 3 letters.
@@ -314,19 +450,24 @@ fn word(seed: u32, n: usize, letters: u32) -> u32 {
     s
 }
 
+// The sizes in edition 1, and then in edition 2.
 fn sizes(w: &[u8]) {
+    text(b"word,");
+    text(w);
+    sizes_in(w, 1);
+    sizes_in(w, 2);
+    text(b"\n");
+}
+
+fn sizes_in(w: &[u8], edition: u32) {
     let mut ends = [7u32; 16];
     let mut work = [7u32; 100];
-    text(b"word,");
-    answered(
-        w,
-        b",fewest",
-        repetitions::best_split(w, 1, &mut ends, &mut work),
-    );
-    answered(
+    named(
         b"",
-        b",most",
-        repetitions::best_split(w, 2, &mut ends, &mut work),
+        edition,
+        b",fewest",
+        repetitions::best_split(w, edition, 1, &mut ends, &mut work),
     );
-    text(b"\n");
+    text(b",most");
+    outcome(repetitions::best_split(w, edition, 2, &mut ends, &mut work));
 }

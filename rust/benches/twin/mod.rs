@@ -6,7 +6,15 @@ pub type Answer<T> = Result<T, (u32, u32)>;
 const LIMIT: usize = 4096;
 const NONE: u32 = u32::MAX;
 const STRIDE: usize = 3;
-const TURNS: usize = 2;
+
+/// The whole turns that a block of an edition has at least.
+fn turns_of(edition: u32) -> Answer<usize> {
+    match edition {
+        1 => Ok(2),
+        2 => Ok(3),
+        _ => Err((12, 0)),
+    }
+}
 
 fn smallest_period(part: &[u8]) -> usize {
     let n = part.len();
@@ -27,11 +35,12 @@ fn smallest_period(part: &[u8]) -> usize {
     }
 }
 
-pub fn part(w: &[u8], first: u32, last: u32) -> Answer<[u32; 4]> {
+pub fn part(w: &[u8], edition: u32, first: u32, last: u32) -> Answer<[u32; 4]> {
     let n = w.len();
     if LIMIT < n {
         return Err((1, 0));
     }
+    let turns = turns_of(edition)?;
     let end = last as usize;
     if first < 1 || n < end || last < first {
         return Err((6, 0));
@@ -43,7 +52,7 @@ pub fn part(w: &[u8], first: u32, last: u32) -> Answer<[u32; 4]> {
         unit as u32,
         (len / unit) as u32,
         (len % unit) as u32,
-        (TURNS * unit <= len) as u32,
+        (turns * unit <= len) as u32,
     ])
 }
 
@@ -126,6 +135,7 @@ pub fn runs(w: &[u8], table: &mut [u32]) -> Answer<u32> {
 
 fn nodes_at(
     w: &[u8],
+    turns: usize,
     x: usize,
     unit_table: &mut [u32],
     rows: &mut [u32],
@@ -137,7 +147,7 @@ fn nodes_at(
         let count = rows_at(w, a, unit_table, rows, 0);
         for i in 0..count {
             let row = &rows[STRIDE * i..STRIDE * i + STRIDE];
-            let from = row[0] as usize + TURNS * row[2] as usize;
+            let from = row[0] as usize + turns * row[2] as usize;
             if from <= x + 1 && x <= row[1] as usize {
                 store(out, found, (number + i + 1) as u32);
                 found += 1;
@@ -148,21 +158,22 @@ fn nodes_at(
     found
 }
 
-pub fn nodes(w: &[u8], position: u32, table: &mut [u32]) -> Answer<u32> {
+pub fn nodes(w: &[u8], edition: u32, position: u32, table: &mut [u32]) -> Answer<u32> {
     if LIMIT < w.len() {
         return Err((1, 0));
     }
+    let turns = turns_of(edition)?;
     let x = position as usize;
     if position < 1 || w.len() < x {
         return Err((6, 0));
     }
     let mut unit_table = [0; LIMIT];
     let mut rows = [0; STRIDE * LIMIT];
-    let count = nodes_at(w, x, &mut unit_table, &mut rows, &mut []);
+    let count = nodes_at(w, turns, x, &mut unit_table, &mut rows, &mut []);
     if table.len() < count {
         return Err((7, 0));
     }
-    nodes_at(w, x, &mut unit_table, &mut rows, table);
+    nodes_at(w, turns, x, &mut unit_table, &mut rows, table);
     Ok(count as u32)
 }
 
@@ -180,13 +191,13 @@ fn offer(work: &mut [u32], choice: u32, at: usize, back: usize, size: u32, j: u3
     }
 }
 
-fn spread(work: &mut [u32], n: usize, choice: u32, j: usize, size: u32) {
+fn spread(work: &mut [u32], n: usize, turns: usize, choice: u32, j: usize, size: u32) {
     let row = n + 1;
     let unit_row = row + row;
     let len = n - j;
     let mut d = 0;
     while d < len {
-        let span = TURNS * work[unit_row + d] as usize;
+        let span = turns * work[unit_row + d] as usize;
         if len < span {
             return;
         }
@@ -199,7 +210,7 @@ fn spread(work: &mut [u32], n: usize, choice: u32, j: usize, size: u32) {
     }
 }
 
-fn fill(w: &[u8], choice: u32, work: &mut [u32]) {
+fn fill(w: &[u8], turns: usize, choice: u32, work: &mut [u32]) {
     let n = w.len();
     let row = n + 1;
     let two = row + row;
@@ -213,7 +224,7 @@ fn fill(w: &[u8], choice: u32, work: &mut [u32]) {
             continue;
         }
         units(&w[j..n], &mut work[two..three]);
-        spread(work, n, choice, j, size + 1);
+        spread(work, n, turns, choice, j, size + 1);
     }
     work[two..two + two].fill(0);
 }
@@ -227,18 +238,25 @@ fn write_ends(prev: &[u32], j: usize, count: usize, ends: &mut [u32]) {
     write_ends(prev, prev[j] as usize, at, ends);
 }
 
-pub fn best_split(w: &[u8], choice: u32, ends: &mut [u32], work: &mut [u32]) -> Answer<u32> {
+pub fn best_split(
+    w: &[u8],
+    edition: u32,
+    choice: u32,
+    ends: &mut [u32],
+    work: &mut [u32],
+) -> Answer<u32> {
     let n = w.len();
     if LIMIT < n {
         return Err((1, 0));
     }
+    let turns = turns_of(edition)?;
     if choice != 1 && choice != 2 {
         return Err((8, 0));
     }
     if work.len() < 4 * (n + 1) {
         return Err((9, 0));
     }
-    fill(w, choice, work);
+    fill(w, turns, choice, work);
     let size = work[n];
     let row = n + 1;
     let answer = if size == NONE {
@@ -253,11 +271,12 @@ pub fn best_split(w: &[u8], choice: u32, ends: &mut [u32], work: &mut [u32]) -> 
     answer
 }
 
-pub fn judge_split(w: &[u8], ends: &[u32]) -> Answer<u32> {
+pub fn judge_split(w: &[u8], edition: u32, ends: &[u32]) -> Answer<u32> {
     let n = w.len();
     if LIMIT < n {
         return Err((1, 0));
     }
+    let turns = turns_of(edition)?;
     let mut before = 0;
     for (k, &end) in ends.iter().enumerate() {
         let end = end as usize;
@@ -265,7 +284,7 @@ pub fn judge_split(w: &[u8], ends: &[u32]) -> Answer<u32> {
         if end <= before || n < end {
             return Err((3, number));
         }
-        if end - before < TURNS * smallest_period(&w[before..end]) {
+        if end - before < turns * smallest_period(&w[before..end]) {
             return Err((4, number));
         }
         before = end;
@@ -312,8 +331,8 @@ fn number_of(
     0
 }
 
-pub fn path_of_split(w: &[u8], ends: &[u32], table: &mut [u32]) -> Answer<u32> {
-    let blocks = judge_split(w, ends)?;
+pub fn path_of_split(w: &[u8], edition: u32, ends: &[u32], table: &mut [u32]) -> Answer<u32> {
+    let blocks = judge_split(w, edition, ends)?;
     if table.len() < ends.len() {
         return Err((7, 0));
     }
@@ -355,11 +374,12 @@ fn run_with(
     ])
 }
 
-pub fn judge_path(w: &[u8], numbers: &[u32]) -> Answer<u32> {
+pub fn judge_path(w: &[u8], edition: u32, numbers: &[u32]) -> Answer<u32> {
     let n = w.len();
     if LIMIT < n {
         return Err((1, 0));
     }
+    let turns = turns_of(edition)?;
     if numbers.len() % 2 == 1 {
         return Err((10, 0));
     }
@@ -378,7 +398,7 @@ pub fn judge_path(w: &[u8], numbers: &[u32]) -> Answer<u32> {
         let inside = match run_with(w, &counts, pair[0], &mut unit_table, &mut rows) {
             None => false,
             Some([first, last, p]) => {
-                first <= before + 1 && end <= last && before + TURNS * p <= end
+                first <= before + 1 && end <= last && before + turns * p <= end
             }
         };
         if !inside {

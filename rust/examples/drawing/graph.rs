@@ -1,7 +1,11 @@
 //! What is drawn: the runs of a word, its graph, and the paths of its best splits.
 
-use cegridom::{best_split, path_of_split, runs, Choice, Refusal, Run};
+use cegridom::{best_split, path_of_split, runs, Choice, Edition, Refusal, Run};
 use std::ops::RangeInclusive;
+
+/// The edition that is drawn, and the turns of its blocks at least.
+pub const EDITION: Edition = Edition::One;
+const TURNS: usize = 2;
 
 /// The white node of a run at a position. Runs and positions count from 1.
 #[derive(Clone, Copy, Debug, PartialEq, Eq)]
@@ -55,17 +59,17 @@ impl<'w> Graph<'w> {
     }
 
     fn best(&self, choice: Choice) -> Result<Option<Split>, Refusal> {
-        let ends = match best_split(self.word, choice) {
+        let ends = match best_split(self.word, EDITION, choice) {
             Err(Refusal::NoSplit) => return Ok(None),
             ends => ends?,
         };
-        let numbers = path_of_split(self.word, &ends)?;
+        let numbers = path_of_split(self.word, EDITION, &ends)?;
         let mut path = Vec::new();
         let mut joint = 0;
         for (&run, &end) in numbers.iter().zip(&ends) {
             let (run, end) = (run as usize, end as usize);
             let white = |position| White { run, position };
-            let start = joint + 2 * self.unit(run);
+            let start = joint + self.span(run);
             path.push(Edge::Diagonal(white(start)));
             path.extend((start + 1..=end).map(|x| Edge::Flat(white(x))));
             path.push(Edge::Drop(white(end)));
@@ -74,19 +78,20 @@ impl<'w> Graph<'w> {
         Ok(Some(Split { ends, path }))
     }
 
-    pub fn unit(&self, run: usize) -> usize {
-        self.runs[run - 1].unit as usize
+    /// How many positions the diagonals of a run span.
+    pub fn span(&self, run: usize) -> usize {
+        TURNS * self.runs[run - 1].unit as usize
     }
 
     /// The positions of a run's white nodes.
     pub fn positions(&self, run: usize) -> RangeInclusive<usize> {
-        let Run { first, last, unit } = self.runs[run - 1];
-        (first + 2 * unit - 1) as usize..=last as usize
+        let Run { first, last, .. } = self.runs[run - 1];
+        first as usize + self.span(run) - 1..=last as usize
     }
 
     /// The joint that the diagonal to a white node comes from.
     pub fn source(&self, white: White) -> usize {
-        white.position - 2 * self.unit(white.run)
+        white.position - self.span(white.run)
     }
 
     /// All white nodes, run by run.

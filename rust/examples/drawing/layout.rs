@@ -376,7 +376,7 @@ fn least_column(graph: &Graph, lanes: f64) -> f64 {
 /// The distance of the lowest row from the joints that lets all diagonals climb steeply enough.
 fn least_gap(graph: &Graph, column: f64) -> f64 {
     let needed = |run| {
-        let span = column * 2.0 * graph.unit(run) as f64;
+        let span = column * graph.span(run) as f64;
         (LEAST_SLOPE * span - ROW * (run - 1) as f64).ceil()
     };
     (1..=graph.runs.len()).map(needed).fold(LEAST_GAP, f64::max)

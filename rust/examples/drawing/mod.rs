@@ -1,4 +1,5 @@
-//! Draws a word, its runs, its graph and the paths of its fewest and its most split as SVG.
+//! Draws a word, its runs, its graph in edition 1 and the paths of its fewest and its most split as
+//! SVG.
 
 pub mod graph;
 pub mod layout;

@@ -21,6 +21,27 @@ fn refused(number: u32) -> Outcome {
     Refused(number, 0)
 }
 
+// ---- editions
+
+pub const EDITIONS: [u32; 2] = [1, 2];
+
+/// The times that a block of an edition is at least as long as its unit.
+pub fn turns(edition: u32) -> Option<usize> {
+    match edition {
+        1 => Some(2),
+        2 => Some(3),
+        _ => None,
+    }
+}
+
+/// The turns of an edition, or the two refusals that come first in each call that is told one.
+fn turns_for(w: &[u8], edition: u32) -> Result<usize, Outcome> {
+    if w.len() > LIMIT {
+        return Err(refused(1));
+    }
+    turns(edition).ok_or(refused(12))
+}
+
 // ---- periods
 
 fn is_period(part: &[u8], p: usize) -> bool {
@@ -51,8 +72,8 @@ pub fn unit(part: &[u8]) -> usize {
     part.len() - borders(part)[part.len() - 1]
 }
 
-fn is_block(part: &[u8]) -> bool {
-    !part.is_empty() && part.len() >= 2 * unit(part)
+fn is_block(part: &[u8], turns: usize) -> bool {
+    !part.is_empty() && part.len() >= turns * unit(part)
 }
 
 // ---- runs
@@ -67,6 +88,7 @@ pub fn plain_runs(w: &[u8]) -> Vec<Run> {
     for first in 1..=n {
         for last in first..=n {
             let p = plain_unit(&w[first - 1..last]);
+            // A run has two turns in every edition.
             let block = last + 1 - first >= 2 * p;
             if block
                 && (first == 1 || at(first - 1) != at(first + p - 1))
@@ -103,10 +125,10 @@ pub fn runs(w: &[u8]) -> Vec<Run> {
 }
 
 /// The numbers of the runs with a white node at a position.
-pub fn white(runs: &[Run], position: usize) -> Vec<u32> {
+pub fn white(runs: &[Run], turns: usize, position: usize) -> Vec<u32> {
     let mut numbers = Vec::new();
     for (i, &(first, last, p)) in runs.iter().enumerate() {
-        if (first + 2 * p - 1..=last).contains(&position) {
+        if (first + turns * p - 1..=last).contains(&position) {
             numbers.push(i as u32 + 1);
         }
     }
@@ -116,22 +138,22 @@ pub fn white(runs: &[Run], position: usize) -> Vec<u32> {
 // ---- splits
 
 /// Every split of a word, by its ends.
-pub fn plain_splits(w: &[u8]) -> Vec<Vec<u32>> {
-    fn go(w: &[u8], from: usize, ends: &mut Vec<u32>, all: &mut Vec<Vec<u32>>) {
+pub fn plain_splits(w: &[u8], turns: usize) -> Vec<Vec<u32>> {
+    fn go(w: &[u8], turns: usize, from: usize, ends: &mut Vec<u32>, all: &mut Vec<Vec<u32>>) {
         if from == w.len() {
             all.push(ends.clone());
         }
         for end in from + 1..=w.len() {
             let part = &w[from..end];
-            if part.len() >= 2 * plain_unit(part) {
+            if part.len() >= turns * plain_unit(part) {
                 ends.push(end as u32);
-                go(w, end, ends, all);
+                go(w, turns, end, ends, all);
                 ends.pop();
             }
         }
     }
     let mut all = Vec::new();
-    go(w, 0, &mut Vec::new(), &mut all);
+    go(w, turns, 0, &mut Vec::new(), &mut all);
     all
 }
 
@@ -150,8 +172,11 @@ fn lengths_from_end(ends: &[u32]) -> Vec<u32> {
     lengths
 }
 
-/// The best size of each prefix and the best split of the whole, by looking at every split.
-pub fn plain_best(w: &[u8], choice: u32) -> (Vec<u32>, Option<Vec<u32>>) {
+/// The best size of each prefix and the best split of the whole.
+pub type Best = (Vec<u32>, Option<Vec<u32>>);
+
+/// By looking at every split.
+pub fn plain_best(w: &[u8], turns: usize, choice: u32) -> Best {
     let best_of = |splits: &[Vec<u32>]| {
         let sizes = splits.iter().map(|s| s.len() as u32);
         if choice == 1 {
@@ -162,106 +187,151 @@ pub fn plain_best(w: &[u8], choice: u32) -> (Vec<u32>, Option<Vec<u32>>) {
         .unwrap_or(NONE)
     };
     let sizes: Vec<u32> = (0..=w.len())
-        .map(|m| best_of(&plain_splits(&w[..m])))
+        .map(|m| best_of(&plain_splits(&w[..m], turns)))
         .collect();
-    let ends = plain_splits(w)
+    let ends = plain_splits(w, turns)
         .into_iter()
         .filter(|s| s.len() as u32 == sizes[w.len()])
         .max_by_key(|s| lengths_from_end(s));
     (sizes, ends)
 }
 
-/// The same: each boundary looks back at the blocks that end there, the longest first.
-pub fn best(w: &[u8], choice: u32) -> (Vec<u32>, Option<Vec<u32>>) {
+/// The sizes of one edition and choice, and the boundary before each.
+struct Sizes {
+    turns: usize,
+    choice: u32,
+    sizes: Vec<u32>,
+    back: Vec<usize>,
+}
+
+impl Sizes {
+    fn new(n: usize, turns: usize, choice: u32) -> Sizes {
+        let mut sizes = vec![NONE; n + 1];
+        sizes[0] = 0;
+        Sizes {
+            turns,
+            choice,
+            sizes,
+            back: vec![0; n + 1],
+        }
+    }
+
+    /// Takes the part between two boundaries, whose unit is known, if it is a block that serves.
+    fn look_back(&mut self, j: usize, m: usize, unit: usize) {
+        if self.sizes[j] == NONE || m - j < self.turns * unit {
+            return;
+        }
+        let size = self.sizes[j] + 1;
+        let better = if self.choice == 1 {
+            size < self.sizes[m]
+        } else {
+            size > self.sizes[m]
+        };
+        if self.sizes[m] == NONE || better {
+            self.sizes[m] = size;
+            self.back[m] = j;
+        }
+    }
+
+    fn best(self) -> Best {
+        let n = self.back.len() - 1;
+        if self.sizes[n] == NONE {
+            return (self.sizes, None);
+        }
+        let mut ends = Vec::new();
+        let mut m = n;
+        while m > 0 {
+            ends.push(m as u32);
+            m = self.back[m];
+        }
+        ends.reverse();
+        (self.sizes, Some(ends))
+    }
+}
+
+/// The same for each edition and choice: each boundary looks back at the blocks that end there, the
+/// longest first. The units, which take most of the time, are found once.
+pub fn bests(w: &[u8]) -> [[Best; 2]; 2] {
     let n = w.len();
-    let mut sizes = vec![NONE; n + 1];
-    let mut back = vec![0; n + 1];
-    sizes[0] = 0;
+    let mut all = EDITIONS.map(|edition| {
+        let turns = turns(edition).expect("both are editions");
+        [1, 2].map(|choice| Sizes::new(n, turns, choice))
+    });
     for m in 1..=n {
         let reversed: Vec<u8> = w[..m].iter().rev().copied().collect();
         let border = borders(&reversed);
         for j in 0..m {
             let length = m - j;
-            if sizes[j] == NONE || length < 2 * (length - border[length - 1]) {
-                continue;
-            }
-            let size = sizes[j] + 1;
-            let better = if choice == 1 {
-                size < sizes[m]
-            } else {
-                size > sizes[m]
-            };
-            if sizes[m] == NONE || better {
-                sizes[m] = size;
-                back[m] = j;
+            let unit = length - border[length - 1];
+            for sizes in all.iter_mut().flatten() {
+                sizes.look_back(j, m, unit);
             }
         }
     }
-    if sizes[n] == NONE {
-        return (sizes, None);
-    }
-    let mut ends = Vec::new();
-    let mut m = n;
-    while m > 0 {
-        ends.push(m as u32);
-        m = back[m];
-    }
-    ends.reverse();
-    (sizes, Some(ends))
+    all.map(|edition| edition.map(Sizes::best))
 }
 
 // ---- the graph
 
 /// The encodings of all paths from joint 0 to a joint, by walking the graph's edges.
-pub fn plain_paths(runs: &[Run], n: usize, target: usize) -> Vec<Vec<u32>> {
+pub fn plain_paths(runs: &[Run], turns: usize, n: usize, target: usize) -> Vec<Vec<u32>> {
     #[derive(Clone, Copy)]
     enum Node {
         Black(usize),
         White(usize, usize),
     }
-    fn is_white(run: Run, position: usize) -> bool {
-        (run.0 + 2 * run.2 - 1..=run.1).contains(&position)
+    struct Graph<'r> {
+        runs: &'r [Run],
+        turns: usize,
+        n: usize,
     }
-    fn go(runs: &[Run], n: usize, at: Node, target: usize, code: &[u32], all: &mut Vec<Vec<u32>>) {
-        match at {
-            Node::Black(j) => {
-                if j == target {
-                    all.push(code.to_vec());
-                }
-                for (i, &run) in runs.iter().enumerate() {
-                    let x = j + 2 * run.2;
-                    if x <= n && is_white(run, x) {
-                        go(runs, n, Node::White(i, x), target, code, all);
+    impl Graph<'_> {
+        fn is_white(&self, run: Run, position: usize) -> bool {
+            (run.0 + self.turns * run.2 - 1..=run.1).contains(&position)
+        }
+
+        fn go(&self, at: Node, target: usize, code: &[u32], all: &mut Vec<Vec<u32>>) {
+            match at {
+                Node::Black(j) => {
+                    if j == target {
+                        all.push(code.to_vec());
+                    }
+                    for (i, &run) in self.runs.iter().enumerate() {
+                        let x = j + self.turns * run.2;
+                        if x <= self.n && self.is_white(run, x) {
+                            self.go(Node::White(i, x), target, code, all);
+                        }
                     }
                 }
-            }
-            Node::White(i, x) => {
-                if is_white(runs[i], x + 1) {
-                    go(runs, n, Node::White(i, x + 1), target, code, all);
+                Node::White(i, x) => {
+                    if self.is_white(self.runs[i], x + 1) {
+                        self.go(Node::White(i, x + 1), target, code, all);
+                    }
+                    let mut longer = code.to_vec();
+                    longer.extend([i as u32 + 1, x as u32]);
+                    self.go(Node::Black(x), target, &longer, all);
                 }
-                let mut longer = code.to_vec();
-                longer.extend([i as u32 + 1, x as u32]);
-                go(runs, n, Node::Black(x), target, &longer, all);
             }
         }
     }
     let mut all = Vec::new();
-    go(runs, n, Node::Black(0), target, &[], &mut all);
+    Graph { runs, turns, n }.go(Node::Black(0), target, &[], &mut all);
     all
 }
 
 // ---- the calls: the outcome, and what an accepted answer writes at the front of its table
 
-pub fn part_call(w: &[u8], first: u32, last: u32) -> Outcome {
-    if w.len() > LIMIT {
-        return refused(1);
-    }
+pub fn part_call(w: &[u8], edition: u32, first: u32, last: u32) -> Outcome {
+    let turns = match turns_for(w, edition) {
+        Ok(turns) => turns,
+        Err(outcome) => return outcome,
+    };
     if first < 1 || last as usize > w.len() || first > last {
         return refused(6);
     }
     let part = &w[first as usize - 1..last as usize];
     let p = unit(part);
-    let block = part.len() >= 2 * p;
+    let block = part.len() >= turns * p;
     Accepted(vec![
         p as u32,
         (part.len() / p) as u32,
@@ -284,14 +354,21 @@ pub fn runs_call(w: &[u8], runs: &[Run], places: usize) -> (Outcome, Vec<u32>) {
     (Accepted(vec![runs.len() as u32]), flat)
 }
 
-pub fn nodes_call(w: &[u8], runs: &[Run], position: u32, places: usize) -> (Outcome, Vec<u32>) {
-    if w.len() > LIMIT {
-        return (refused(1), vec![]);
-    }
+pub fn nodes_call(
+    w: &[u8],
+    edition: u32,
+    runs: &[Run],
+    position: u32,
+    places: usize,
+) -> (Outcome, Vec<u32>) {
+    let turns = match turns_for(w, edition) {
+        Ok(turns) => turns,
+        Err(outcome) => return (outcome, vec![]),
+    };
     if position < 1 || position as usize > w.len() {
         return (refused(6), vec![]);
     }
-    let numbers = white(runs, position as usize);
+    let numbers = white(runs, turns, position as usize);
     if places < numbers.len() {
         return (refused(7), vec![]);
     }
@@ -301,14 +378,15 @@ pub fn nodes_call(w: &[u8], runs: &[Run], position: u32, places: usize) -> (Outc
 /// The outcome, the ends, and the front of the working table where the call changes it.
 pub fn best_call(
     w: &[u8],
+    edition: u32,
     choice: u32,
-    best: &(Vec<u32>, Option<Vec<u32>>),
+    best: &Best,
     places: usize,
     work_places: usize,
 ) -> (Outcome, Vec<u32>, Vec<u32>) {
     let n = w.len();
-    if n > LIMIT {
-        return (refused(1), vec![], vec![]);
+    if let Err(outcome) = turns_for(w, edition) {
+        return (outcome, vec![], vec![]);
     }
     if choice != 1 && choice != 2 {
         return (refused(8), vec![], vec![]);
@@ -342,16 +420,23 @@ fn verdict(n: usize, ends: &[u32], fits: impl Fn(usize, usize, usize) -> bool) -
     (before != n).then(|| refused(5))
 }
 
-pub fn judge_split_call(w: &[u8], ends: &[u32]) -> Outcome {
-    if w.len() > LIMIT {
-        return refused(1);
-    }
-    verdict(w.len(), ends, |_, i, j| is_block(&w[i..j]))
+pub fn judge_split_call(w: &[u8], edition: u32, ends: &[u32]) -> Outcome {
+    let turns = match turns_for(w, edition) {
+        Ok(turns) => turns,
+        Err(outcome) => return outcome,
+    };
+    verdict(w.len(), ends, |_, i, j| is_block(&w[i..j], turns))
         .unwrap_or_else(|| Accepted(vec![ends.len() as u32]))
 }
 
-pub fn path_call(w: &[u8], runs: &[Run], ends: &[u32], places: usize) -> (Outcome, Vec<u32>) {
-    let judged = judge_split_call(w, ends);
+pub fn path_call(
+    w: &[u8],
+    edition: u32,
+    runs: &[Run],
+    ends: &[u32],
+    places: usize,
+) -> (Outcome, Vec<u32>) {
+    let judged = judge_split_call(w, edition, ends);
     if let Refused(..) = judged {
         return (judged, vec![]);
     }
@@ -375,10 +460,11 @@ pub fn path_call(w: &[u8], runs: &[Run], ends: &[u32], places: usize) -> (Outcom
     (judged, numbers)
 }
 
-pub fn judge_path_call(w: &[u8], runs: &[Run], numbers: &[u32]) -> Outcome {
-    if w.len() > LIMIT {
-        return refused(1);
-    }
+pub fn judge_path_call(w: &[u8], edition: u32, runs: &[Run], numbers: &[u32]) -> Outcome {
+    let turns = match turns_for(w, edition) {
+        Ok(turns) => turns,
+        Err(outcome) => return outcome,
+    };
     if numbers.len() % 2 == 1 {
         return refused(10);
     }
@@ -389,7 +475,7 @@ pub fn judge_path_call(w: &[u8], runs: &[Run], numbers: &[u32]) -> Outcome {
             return false;
         }
         let (first, last, p) = runs[number - 1];
-        first <= i + 1 && j <= last && j - i >= 2 * p
+        first <= i + 1 && j <= last && j - i >= turns * p
     })
     .unwrap_or_else(|| Accepted(vec![ends.len() as u32]))
 }

@@ -2,7 +2,12 @@
 -- says what that means. Assumes nothing.
 use mathlib.Core.Path.{sym, ap, _∙_}
 use borrow.Author.Needs.{needs}
+use lib.ListN.{length}
 use Rattle.answers.specs.Outcome.{countedView, accepted}
+use Rattle.periods.specs.Period.{anyPeriod}
+use Rattle.periods.specs.Edition.{turnsOf}
+use Rattle.periods.proofs.Editions.{two-turns}
+use Rattle.repetitions.proofs.Blocks.{factorization-fewer-turns}
 use Rattle.paths.proofs.PathClaims.{path-promised-refused, path-promised-few, path-promised-numbered, accepted-split, path-answered}
 use Rattle.paths.proofs.path_of_split.Statement.{statement}
 use Rattle.paths.proofs.path_of_split.Tie as tie
@@ -19,20 +24,20 @@ enum-known-verdict-2 c = search needs
 returns : tie.Need-returns
 returns c =
     let g = c .before .before .before .before .before .before .before .before .args in
-    path-answered (g .w .now) (g .ends .now) (g .table .now) _ _
-    (path-promised-few (g .w .now) (g .ends .now) (g .table .now) _ (ap countedView (sym (c .before .before .verdict2 .given .1)) ∙ c .before .before .before .before .judge-split .ensures .0) (c .if1 .taken))
+    path-answered (g .w .now) (g .edition) (g .ends .now) (g .table .now) _ _
+    (path-promised-few (g .w .now) (g .edition) (g .ends .now) (g .table .now) _ (ap countedView (sym (c .before .before .verdict2 .given .1)) ∙ c .before .before .before .before .judge-split .ensures .0) (c .if1 .taken))
 
 number-blocks-requires : tie.Need-number-blocks-requires
 number-blocks-requires c κs =
     let g = c .before .before .before .before .before .before .before .before .before .args in
-    let A = accepted-split (g .w .now) (g .ends .now) (g .table .now) _ (ap countedView (sym (c .before .before .before .verdict2 .given .1)) ∙ c .before .before .before .before .before .judge-split .ensures .0) in
-    (A .0, A .2, c .before .if1 .left)
+    let A = accepted-split (g .w .now) (g .edition) (g .ends .now) (g .table .now) _ (ap countedView (sym (c .before .before .before .verdict2 .given .1)) ∙ c .before .before .before .before .before .judge-split .ensures .0) in
+    (A .0, factorization-fewer-turns anyPeriod 2 (turnsOf (g .edition)) (g .w .now) (length (g .w .now)) (g .ends .now) (two-turns (g .edition)) (A .3), c .before .if1 .left)
 
 returns-2 : tie.Need-returns-2
 returns-2 c =
     let g = c .before .before .before .before .before .before .before .args in
-    path-answered (g .w .now) (g .ends .now) (g .table .now) _ _
-    (path-promised-refused (g .w .now) (g .ends .now) (g .table .now) _ _ (ap countedView (sym (c .before .verdict .given .1)) ∙ c .before .before .before .judge-split .ensures .0))
+    path-answered (g .w .now) (g .edition) (g .ends .now) (g .table .now) _ _
+    (path-promised-refused (g .w .now) (g .edition) (g .ends .now) (g .table .now) _ _ (ap countedView (sym (c .before .verdict .given .1)) ∙ c .before .before .before .judge-split .ensures .0))
 
 same-length : tie.Need-same-length
 same-length c = search needs
@@ -41,9 +46,9 @@ returns-3 : tie.Need-returns-3
 returns-3 c =
     let g = c .before .before .before .before .before .before .before .before .before .before .before .before .args in
     let e = (ap countedView (sym (c .before .before .before .before .before .before .verdict2 .given .1)) ∙ c .before .before .before .before .before .before .before .before .judge-split .ensures .0) in
-    let A = accepted-split (g .w .now) (g .ends .now) (g .table .now) _ e in
-    let P = path-promised-numbered (g .w .now) (g .ends .now) (g .table .now) _ e (c .before .before .before .before .if1 .left) in
-    path-answered (g .w .now) (g .ends .now) (g .table .now) _ _ record { answer = ap accepted (A .1) ∙ P .answer; table = c .before .before .number-blocks .ensures ∙ P .table }
+    let A = accepted-split (g .w .now) (g .edition) (g .ends .now) (g .table .now) _ e in
+    let P = path-promised-numbered (g .w .now) (g .edition) (g .ends .now) (g .table .now) _ e (c .before .before .before .before .if1 .left) in
+    path-answered (g .w .now) (g .edition) (g .ends .now) (g .table .now) _ _ record { answer = ap accepted (A .1) ∙ P .answer; table = c .before .before .number-blocks .ensures ∙ P .table }
 
 pub path-of-split-spec : {M : Type 1} → statement M
 path-of-split-spec =

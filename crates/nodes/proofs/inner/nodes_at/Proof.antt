@@ -7,7 +7,7 @@ use native.Mathlib.Omega.{arith}
 use lib.ListN.{length}
 use lib.Seq.{sets, length-sets}
 use Rattle.answers.specs.Outcome.{limit}
-use Rattle.periods.specs.Period.{anyPeriod, turns}
+use Rattle.periods.specs.Period.{anyPeriod}
 use Rattle.runs.specs.declared.Record.{Record}
 use Rattle.runs.specs.Table.{rowsAt, rowsBefore, stride}
 use Rattle.nodes.specs.Node.{node?}
@@ -20,12 +20,12 @@ use Rattle.nodes.proofs.inner.nodes_at.Statement.{statement}
 use Rattle.nodes.proofs.inner.nodes_at.Tie as tie
 
 abbrev Inv-loop : tie.InvT-loop
-Inv-loop w x units₀ rows₀ out₀ found₀ number₀ a₀ units rows out found number a =
-    (a ≤ x) × (number ≡ length (rowsBefore w a)) × (found ≡ length (nodesBefore w x a)) × (out ≡ sets out₀ 0 (nodesBefore w x a))
+Inv-loop w turns x units₀ rows₀ out₀ found₀ number₀ a₀ units rows out found number a =
+    (a ≤ x) × (number ≡ length (rowsBefore w a)) × (found ≡ length (nodesBefore turns w x a)) × (out ≡ sets out₀ 0 (nodesBefore turns w x a))
     × (units ≡ unitsBefore w a units₀) × (length units ≡ length units₀) × (rows ≡ rowsLeft w a rows₀) × (length rows ≡ length rows₀)
 
 abbrev μ-loop : tie.MeasureT-loop
-μ-loop w x units₀ rows₀ out₀ found₀ number₀ a₀ units rows out found number a = x - a
+μ-loop w turns x units₀ rows₀ out₀ found₀ number₀ a₀ units rows out found number a = x - a
 
 -- as many runs as there are after the boundaries below a, and at most as many nodes
 number-most : (c : tie.At-loop Inv-loop μ-loop) → c .loop .number ≤ c .loop .a * limit
@@ -34,7 +34,7 @@ number-most c = omega (arith, c .loop .inv .1, rows-before-at-most (c .before .b
 found-most : (c : tie.At-loop Inv-loop μ-loop) → c .loop .found ≤ c .loop .number
 found-most c =
     let g = c .before .before .before .before .before .args in
-    omega (arith, c .loop .inv .1, c .loop .inv .2, numbers-at-most (node? anyPeriod turns (g .x)) 0 (rowsBefore (g .w .now) (c .loop .a)))
+    omega (arith, c .loop .inv .1, c .loop .inv .2, numbers-at-most (node? anyPeriod (g .turns) (g .x)) 0 (rowsBefore (g .w .now) (c .loop .a)))
 
 -- the runs after boundary a, and how many there are at most
 abbrev rows-of : tie.At-loop Inv-loop μ-loop → List Record
@@ -51,8 +51,8 @@ loop-holds c =
     let g = c .before .before .before .before .args in (
       omega arith,
       ap length (sym (before-none (g .w .now))),
-      ap length (sym (nodes-before-none (g .w .now) (g .x))),
-      ap (sets (g .out .now) 0) (sym (nodes-before-none (g .w .now) (g .x))),
+      ap length (sym (nodes-before-none (g .turns) (g .w .now) (g .x))),
+      ap (sets (g .out .now) 0) (sym (nodes-before-none (g .turns) (g .w .now) (g .x))),
       sym (units-before-none (g .w .now) (g .units .now)),
       refl,
       sym (rows-left-none (g .w .now) (g .rows .now)),
@@ -70,6 +70,7 @@ pick-requires c κs =
       omega arith,
       omega (arith, number-most (c .before .before .before .before .before .before .before .before .before .before)),
       found-most (c .before .before .before .before .before .before .before .before .before .before),
+      (omega arith, omega arith),
     )
 
 add-number : tie.Need-add-number Inv-loop μ-loop
@@ -87,7 +88,7 @@ loop-again c =
     let l = c .before .before .before .before .before .before .before .before .before .before .before .before .before .loop in
     let r = c .before .before .before .before .before .before .before .before .before .rows-at in
     let k = c .before .before .pick in
-    let s = nodes-step (g .w .now) (g .x) _ (g .out .now) (l .out) _ (l .a) (l .number) (l .found) (k .result) (l .inv .1) (l .inv .2) (l .inv .3)
+    let s = nodes-step (g .turns) (g .w .now) (g .x) _ (g .out .now) (l .out) _ (l .a) (l .number) (l .found) (k .result) (l .inv .1) (l .inv .2) (l .inv .3)
     (records-left (rows-of (c .before .before .before .before .before .before .before .before .before .before .before .before .before)) (l .rows) _ (r .result) (r .ensures .0) (r .ensures .1 .0) (rows-room (c .before .before .before .before .before .before .before .before .before .before .before .before .before))) (k .ensures .0) (k .ensures .1) in (
       omega arith,
       omega (arith, r .ensures .0, l .inv .1, count-more (g .w .now) (l .a)),
@@ -106,14 +107,14 @@ same-length-2 : tie.Need-same-length-2 Inv-loop μ-loop
 same-length-2 c = c .before .loop .inv .7
 
 same-length-3 : tie.Need-same-length-3 Inv-loop μ-loop
-same-length-3 c = ap length (c .before .loop .inv .3) ∙ length-sets (c .before .before .before .before .before .before .args .out .now) 0 (nodesBefore (c .before .before .before .before .before .before .args .w .now) (c .before .before .before .before .before .before .args .x) (c .before .loop .a))
+same-length-3 c = ap length (c .before .loop .inv .3) ∙ length-sets (c .before .before .before .before .before .before .args .out .now) 0 (nodesBefore (c .before .before .before .before .before .before .args .turns) (c .before .before .before .before .before .before .args .w .now) (c .before .before .before .before .before .before .args .x) (c .before .loop .a))
 
 returns : tie.Need-returns Inv-loop μ-loop
 returns c =
     let g = c .before .before .before .before .before .before .args in
     let l = c .before .loop in
     let e : l .a ≡ g .x = omega arith in
-    let f = nodes-enough (g .w .now) (g .x) (omega arith) in (
+    let f = nodes-enough (g .turns) (g .w .now) (g .x) (omega arith) (omega arith) in (
       rw e at (l .inv .2) ∙ ap length f,
       (rw e at (l .inv .3) ∙ ap (sets (g .out .now) 0) f, (rw e at (l .inv .4), rw e at (l .inv .6))),
     )

@@ -1,6 +1,6 @@
 -- `paths::inner::follow` meets its contract: its loop keeps that the verdict on the blocks that are left is the verdict on all. Assumes nothing.
 use mathlib.Core.Path.{_≡_, refl, sym, _∙_}
-use mathlib.Core.Bool.{Bool, true, false}
+use mathlib.Core.Bool.{Bool, false}
 use mathlib.Core.List.{List}
 use Prim.Native.Nat.{ℕ, suc, _+_, _-_, _*_, _≤_, _<_}
 use native.Mathlib.Omega.{arith}
@@ -9,7 +9,7 @@ use borrow.Author.Tests.{not-true, not-false}
 use lib.ListN.{length, getD, length-replicate}
 use Rattle.laws.proofs.Stores.{lent-long}
 use Rattle.answers.specs.Outcome.{limit}
-use Rattle.periods.specs.Period.{anyPeriod, turns}
+use Rattle.periods.specs.Period.{anyPeriod}
 use Rattle.runs.specs.Table.{stride}
 use Rattle.factors.specs.Verdict.{badEnd?, verdict}
 use Rattle.factors.proofs.Judging.{end-fits, judgedFrom, judged-first, judged-bad-end, judged-no-block, judged-block, judged-unfinished, judged-finished}
@@ -21,13 +21,13 @@ use Rattle.paths.proofs.inner.follow.Statement.{statement}
 use Rattle.paths.proofs.inner.follow.Tie as tie
 
 abbrev Inv-loop : tie.InvT-loop
-Inv-loop w numbers n counted units₀ rows₀ before₀ k₀ units rows before k =
+Inv-loop w turns numbers n counted units₀ rows₀ before₀ k₀ units rows before k =
     (k + k ≤ length numbers) × (k ≤ before) × (before ≤ n)
     × (judgedFrom (segment? anyPeriod turns w numbers) n (endsOfPairs numbers) k before ≡ verdict (segment? anyPeriod turns w numbers) n (endsOfPairs numbers))
     × (length units ≡ limit) × (length rows ≡ stride * limit)
 
 abbrev μ-loop : tie.MeasureT-loop
-μ-loop w numbers n counted units₀ rows₀ before₀ k₀ units rows before k = length numbers - (k + k)
+μ-loop w turns numbers n counted units₀ rows₀ before₀ k₀ units rows before k = length numbers - (k + k)
 
 -- in a turn of the loop: the arguments, the test of a piece, the next end
 abbrev Turn : Type 0
@@ -39,8 +39,11 @@ word c = c .before .before .before .before .before .before .before .before .args
 abbrev given : Turn → List ℕ
 given c = c .before .before .before .before .before .before .before .before .args .numbers .now
 
+abbrev turn-number : Turn → ℕ
+turn-number c = c .before .before .before .before .before .before .before .before .args .turns
+
 abbrev test : Turn → ℕ → ℕ → ℕ → Bool
-test c = segment? anyPeriod turns (word c) (given c)
+test c = segment? anyPeriod (turn-number c) (word c) (given c)
 
 abbrev end : Turn → ℕ
 end c = getD (given c) (c .loop .k + c .loop .k + 1) 0
@@ -81,7 +84,7 @@ loop-holds c =
       omega arith,
       omega arith,
       omega arith,
-      judged-first (segment? anyPeriod turns (g .w .now) (g .numbers .now)) (length (g .w .now)) (endsOfPairs (g .numbers .now)),
+      judged-first (segment? anyPeriod (g .turns) (g .w .now) (g .numbers .now)) (length (g .w .now)) (endsOfPairs (g .numbers .now)),
       lent-long limit (c .before .before .counts .last .1 .0) (c .before .before .counts .kept .1 .0),
       length-replicate {A = ℕ} (stride * limit) 0,
     )
@@ -145,13 +148,13 @@ run-with-requires c κs =
     (((omega arith, omega (arith, t .loop .inv .4)), omega (arith, t .loop .inv .5)), counts-hold (word t) _ _ (omega (arith, counts-long n)) (n .counts .ensures .0))
 
 lies-in-requires : tie.Need-lies-in-requires Inv-loop μ-loop
-lies-in-requires c κs = let f = fits (c .before .before .before .before .before .before) in (omega arith, omega (arith, f))
+lies-in-requires c κs = let f = fits (c .before .before .before .before .before .before) in (omega arith, omega (arith, f), (omega arith, omega arith))
 
 -- the test of the piece, from the run that was looked up
 tested : (c : tie.After-lies-in Inv-loop μ-loop) → c .lies-in .result ≡ test (turn (c .before .before .before .before .before .before .before)) (suc (turn (c .before .before .before .before .before .before .before) .loop .k)) (turn (c .before .before .before .before .before .before .before) .loop .before) (end (turn (c .before .before .before .before .before .before .before)))
 tested c =
     let t = turn (c .before .before .before .before .before .before .before) in
-    c .lies-in .ensures ∙ sym (segment-test (word t) (given t) (t .loop .k) (t .loop .before) (end t) _ (omega arith) (c .before .before .before .run-with .ensures .0))
+    c .lies-in .ensures ∙ sym (segment-test (turn-number t) (word t) (given t) (t .loop .k) (t .loop .before) (end t) _ (omega arith) (c .before .before .before .run-with .ensures .0))
 
 returns-2 : tie.Need-returns-2 Inv-loop μ-loop
 returns-2 c =
@@ -183,8 +186,8 @@ returns-3 c =
     let t = c .before .before in
     judged-unfinished (test t) (length (word t)) (endsOfPairs (given t)) (t .loop .k) (t .loop .before) (omega (arith, length-ends-of-pairs (given t))) (c .if3 .taken) ∙ t .loop .inv .3
 
-cast-t37 : tie.Need-cast-t37 Inv-loop μ-loop
-cast-t37 c = omega arith
+cast-t38 : tie.Need-cast-t38 Inv-loop μ-loop
+cast-t38 c = omega arith
 
 returns-4 : tie.Need-returns-4 Inv-loop μ-loop
 returns-4 c =
@@ -224,5 +227,5 @@ follow-spec =
     loop-less
     loop-again
     returns-3
-    cast-t37
+    cast-t38
     returns-4)

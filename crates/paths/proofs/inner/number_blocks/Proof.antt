@@ -6,7 +6,7 @@ use native.Mathlib.Omega.{arith}
 use borrow.Author.Needs.{needs}
 use lib.ListN.{length, getD, length-replicate}
 use Rattle.answers.specs.Outcome.{limit}
-use Rattle.periods.specs.Period.{anyPeriod, turns}
+use Rattle.periods.specs.Period.{anyPeriod}
 use Rattle.runs.specs.Table.{stride}
 use Rattle.paths.specs.LookUp.{numberOf}
 use Rattle.repetitions.specs.Block.{Block}
@@ -45,11 +45,11 @@ room : (c : Turn) → length (ends-given c) ≤ length (table-lent c)
 room c = c .before .before .before .before .before .before .before .before .before .pre .2
 
 -- the next piece is a block
-block : (c : Turn) → c .loop .k < length (ends-given c) → Block anyPeriod turns (word c) (c .loop .before) (end c)
+block : (c : Turn) → c .loop .k < length (ends-given c) → Block anyPeriod 2 (word c) (c .loop .before) (end c)
 block c h = numbering-block (word c) (ends-given c) (table-lent c) (c .loop .before) (c .loop .k) (c .loop .table) (c .loop .inv .0) h
 
 up : (c : Turn) → c .loop .k < length (ends-given c) → c .loop .before < end c
-up c h = block-up anyPeriod turns (word c) (c .loop .before) (end c) (block c h)
+up c h = block-up anyPeriod 2 (word c) (c .loop .before) (end c) (block c h)
 
 -- the counts keep their length
 counts-long : (c : tie.After-counts Inv-loop μ-loop) → length (c .counts .last .1 .1 .0) ≡ limit + 1

@@ -14,10 +14,10 @@ use Rattle.repetitions.proofs.inner.fill.Statement.{statement}
 use Rattle.repetitions.proofs.inner.fill.Tie as tie
 
 abbrev Inv-loop : tie.InvT-loop
-Inv-loop w choice work₀ n row two three j₀ work j = (j ≤ n) × Filling (choiceOf choice) w work₀ j work
+Inv-loop w turns choice work₀ n row two three j₀ work j = (j ≤ n) × Filling turns (choiceOf choice) w work₀ j work
 
 abbrev μ-loop : tie.MeasureT-loop
-μ-loop w choice work₀ n row two three j₀ work j = n - j
+μ-loop w turns choice work₀ n row two three j₀ work j = n - j
 
 -- in a turn of the loop: the arguments, and the table when the loop began
 abbrev Turn : Type 0
@@ -28,6 +28,9 @@ word c = c .before .before .before .before .before .before .before .before .befo
 
 abbrev chosen : Turn → Choice
 chosen c = choiceOf (c .before .before .before .before .before .before .before .before .before .before .before .args .choice)
+
+abbrev turns : Turn → ℕ
+turns c = c .before .before .before .before .before .before .before .before .before .before .before .args .turns
 
 abbrev entered : Turn → List ℕ
 entered c = c .before .before .before .before .before .before .before .before .before .before .before .args .work .now
@@ -40,7 +43,7 @@ first-is c = begun-from (word c) (entered c) _ _ (c .before .before .before .bef
 
 -- the table keeps its length
 long : (c : Turn) → length (c .loop .work) ≡ length (entered c)
-long c = c .loop .inv .1 .long ∙ ap length (first-is c) ∙ begun-long (chosen c) (word c) (entered c) (omega arith)
+long c = c .loop .inv .1 .long ∙ ap length (first-is c) ∙ begun-long (turns c) (chosen c) (word c) (entered c) (omega arith)
 
 -- and had enough places when the loop began
 room : (c : Turn) → rows * (length (word c) + 1) ≤ length (first c)
@@ -77,8 +80,8 @@ loop-holds : tie.Need-loop-holds Inv-loop μ-loop
 loop-holds c =
     let g = c .before .before .before .before .before .before .before .before .before .before .args in (
       omega arith,
-      subst (λ (x : List ℕ). Filling (choiceOf (g .choice)) (g .w .now) x 0 x)
-          (sym (begun-from (g .w .now) (g .work .now) _ _ (c .before .before .before .before .before .before .start .ensures) (c .before .before .clear .ensures))) (filling-starts (choiceOf (g .choice)) (g .w .now) (g .work .now) (omega arith)),
+      subst (λ (x : List ℕ). Filling (g .turns) (choiceOf (g .choice)) (g .w .now) x 0 x)
+          (sym (begun-from (g .w .now) (g .work .now) _ _ (c .before .before .before .before .before .before .start .ensures) (c .before .before .clear .ensures))) (filling-starts (g .turns) (choiceOf (g .choice)) (g .w .now) (g .work .now) (omega arith)),
     )
 
 mul-size : tie.Need-mul-size Inv-loop μ-loop
@@ -96,7 +99,7 @@ loop-less c = omega arith
 loop-again : tie.Need-loop-again Inv-loop μ-loop
 loop-again c =
     let t = c .before .before .before in
-    (omega arith, filling-skips (chosen t) (word t) _ _ _ (t .loop .inv .1) (room t) (omega arith) (c .if1 .taken))
+    (omega arith, filling-skips (turns t) (chosen t) (word t) _ _ _ (t .loop .inv .1) (room t) (omega arith) (c .if1 .taken))
 
 sub-units : tie.Need-sub-units Inv-loop μ-loop
 sub-units c = omega arith
@@ -148,9 +151,10 @@ spread-requires c κs =
     let e = laid-from (word t) j (t .loop .work) _ (c .before .before .before .units .ensures) in (
       omega arith,
       omega arith,
-      omega (arith, long t, ap length e, laid-long (chosen t) (word t) _ (t .loop .work) j (t .loop .inv .1) (room t) (omega arith), room t),
+      omega (arith, long t, ap length e, laid-long (turns t) (chosen t) (word t) _ (t .loop .work) j (t .loop .inv .1) (room t) (omega arith), room t),
       subst (λ (u : List ℕ). (d f : ℕ) → d ≤ f → f < n - j → getD u (placeOfUnit n d) 0 ≤ getD u (placeOfUnit n f) 0) (sym e)
-          (laid-rises (chosen t) (word t) _ (t .loop .work) j (t .loop .inv .1) (room t) (omega arith)),
+          (laid-rises (turns t) (chosen t) (word t) _ (t .loop .work) j (t .loop .inv .1) (room t) (omega arith)),
+      t .before .before .before .before .before .before .before .before .before .before .before .pre .1,
     )
 
 add-j-2 : tie.Need-add-j-2 Inv-loop μ-loop
@@ -165,7 +169,7 @@ loop-again-2 c =
     let j = t .loop .j in
     let e = laid-from (word t) j (t .loop .work) _ (c .before .before .before .before .before .before .units .ensures) in (
       omega arith,
-      filling-spreads (chosen t) (word t) _ (t .loop .work) j (t .loop .inv .1) (room t) (omega arith) (omega arith) (c .before .before .before .before .before .before .before .before .before .if1 .left) _ _ e (c .before .before .spread .ensures),
+      filling-spreads (turns t) (chosen t) (word t) _ (t .loop .work) j (t .loop .inv .1) (room t) (omega arith) (omega arith) (c .before .before .before .before .before .before .before .before .before .if1 .left) _ _ e (c .before .before .spread .ensures),
     )
 
 add-four : tie.Need-add-four Inv-loop μ-loop
@@ -201,8 +205,8 @@ returns c =
     let n = length (word t) in
     let e : t .loop .j ≡ n = omega arith in
     ap (lent (t .loop .work) (second n) (fourth n)) (c .before .before .clear2 .ensures)
-    ∙ filling-done (chosen t) (word t) (entered t) _ (t .loop .work) (t .loop .j) (omega arith) (ap length (first-is t) ∙ begun-long (chosen t) (word t) (entered t) (omega arith))
-    (ap (drop (rows * (n + 1))) (first-is t) ∙ begun-kept (chosen t) (word t) (entered t) (omega arith))
+    ∙ filling-done (turns t) (chosen t) (word t) (entered t) _ (t .loop .work) (t .loop .j) (omega arith) (ap length (first-is t) ∙ begun-long (turns t) (chosen t) (word t) (entered t) (omega arith))
+    (ap (drop (rows * (n + 1))) (first-is t) ∙ begun-kept (turns t) (chosen t) (word t) (entered t) (omega arith))
     e (t .loop .inv .1)
 
 pub fill-spec : {M : Type 1} → statement M

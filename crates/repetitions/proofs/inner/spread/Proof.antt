@@ -2,10 +2,11 @@
 -- fall. Assumes nothing.
 use mathlib.Core.Path.{_≡_, ap, _∙_}
 use mathlib.Core.List.{List}
-use Prim.Native.Nat.{ℕ, _+_, _-_, _<_, _≤_}
+use Prim.Native.Nat.{ℕ, _+_, _-_, _*_, _<_, _≤_}
 use native.Mathlib.Omega.{arith}
+use native.Mathlib.Nat.{mul-le-mul-left}
 use lib.ListN.{length, getD}
-use Rattle.periods.specs.Period.{turns}
+use Rattle.periods.proofs.Editions.{turns-below}
 use Rattle.factors.specs.Factorization.{choiceOf}
 use Rattle.factors.specs.Table.{spread}
 use Rattle.factors.proofs.Filling.{spread-none, spread-takes, spread-passes, spread-rest, length-spread, spread-past}
@@ -15,22 +16,26 @@ use Rattle.repetitions.proofs.inner.spread.Statement.{statement}
 use Rattle.repetitions.proofs.inner.spread.Tie as tie
 
 abbrev Inv-loop : tie.InvT-loop
-Inv-loop work₀ n choice j size row units len d₀ work d = (d ≤ len) × (work ≡ spread (choiceOf choice) n j size (longEnough turns n work₀) d work₀)
+Inv-loop work₀ n turns choice j size row units len d₀ work d = (d ≤ len) × (work ≡ spread (choiceOf choice) n j size (longEnough turns n work₀) d work₀)
 
 abbrev μ-loop : tie.MeasureT-loop
-μ-loop work₀ n choice j size row units len d₀ work d = len - d
+μ-loop work₀ n turns choice j size row units len d₀ work d = len - d
 
 long : (c : tie.At-loop Inv-loop μ-loop) → length (c .loop .work) ≡ length (c .before .before .args .work .now)
 long c =
     let g = c .before .before .args in
-    ap length (c .loop .inv .1) ∙ length-spread (choiceOf (g .choice)) (g .n) (g .j) (g .size) (longEnough turns (g .n) (g .work .now)) (g .work .now) (c .loop .d)
+    ap length (c .loop .inv .1) ∙ length-spread (choiceOf (g .choice)) (g .n) (g .j) (g .size) (longEnough (g .turns) (g .n) (g .work .now)) (g .work .now) (c .loop .d)
 
 -- the units stay as they were
 unit-read : (c : tie.At-loop Inv-loop μ-loop) → c .loop .d < c .before .before .args .n - c .before .before .args .j → getD (c .loop .work) (placeOfUnit (c .before .before .args .n) (c .loop .d)) 0 ≡ getD (c .before .before .args .work .now) (placeOfUnit (c .before .before .args .n) (c .loop .d)) 0
 unit-read c h =
     let g = c .before .before .args in
     ap (λ (t : List ℕ). getD t (placeOfUnit (g .n) (c .loop .d)) 0) (c .loop .inv .1)
-    ∙ spread-past (choiceOf (g .choice)) (g .n) (g .j) (g .size) (longEnough turns (g .n) (g .work .now)) (g .work .now) (c .loop .d) (placeOfUnit (g .n) (c .loop .d)) (omega arith) (omega arith)
+    ∙ spread-past (choiceOf (g .choice)) (g .n) (g .j) (g .size) (longEnough (g .turns) (g .n) (g .work .now)) (g .work .now) (c .loop .d) (placeOfUnit (g .n) (c .loop .d)) (omega arith) (omega arith)
+
+-- so many turns of the unit that is read
+span-read : (c : tie.At-loop Inv-loop μ-loop) → c .loop .d < c .before .before .args .n - c .before .before .args .j → c .before .before .args .turns * getD (c .loop .work) (placeOfUnit (c .before .before .args .n) (c .loop .d)) 0 ≡ c .before .before .args .turns * getD (c .before .before .args .work .now) (placeOfUnit (c .before .before .args .n) (c .loop .d)) 0
+span-read c h = ap (λ (u : ℕ). c .before .before .args .turns * u) (unit-read c h)
 
 add-row : tie.Need-add-row Inv-loop μ-loop
 add-row c = omega arith
@@ -57,7 +62,10 @@ cast-span : tie.Need-cast-span Inv-loop μ-loop
 cast-span c = omega (arith, c .slice-known2 .given (c .before .before .before .before .args .n + 1 + (c .before .before .before .before .args .n + 1) + c .before .before .loop .d))
 
 mul-span-2 : tie.Need-mul-span-2 Inv-loop μ-loop
-mul-span-2 c = omega (arith, c .slice-known2 .given (c .before .before .before .before .args .n + 1 + (c .before .before .before .before .args .n + 1) + c .before .before .loop .d))
+mul-span-2 c =
+    let g = c .before .before .before .before .args in
+    let i = placeOfUnit (g .n) (c .before .before .loop .d) in
+    omega (arith, c .slice-known2 .given i, turns-below (g .turns) (getD (c .before .before .loop .work) i 0) (c .before .before .before .before .pre .4))
 
 same-length : tie.Need-same-length Inv-loop μ-loop
 same-length c = long (c .before .before .before)
@@ -68,9 +76,9 @@ returns c =
     let l = c .before .before .before .loop in
     let e : l .d + (g .n - g .j - l .d) ≡ g .n - g .j = omega arith in
     l .inv .1
-    ∙ spread-rest (choiceOf (g .choice)) (g .n) (g .j) (g .size) (longEnough turns (g .n) (g .work .now)) (g .work .now) (l .d) (g .n - g .j - l .d)
-    (λ i x y. not-long-enough turns (g .n) (g .work .now) i (omega (arith, c .if1 .taken, unit-read (c .before .before .before) (omega arith), c .before .before .before .before .before .pre .3 (l .d) i x (omega arith))))
-    ∙ ap (λ (x : ℕ). spread (choiceOf (g .choice)) (g .n) (g .j) (g .size) (longEnough turns (g .n) (g .work .now)) x (g .work .now)) e
+    ∙ spread-rest (choiceOf (g .choice)) (g .n) (g .j) (g .size) (longEnough (g .turns) (g .n) (g .work .now)) (g .work .now) (l .d) (g .n - g .j - l .d)
+    (λ i x y. not-long-enough (g .turns) (g .n) (g .work .now) i (omega (arith, c .if1 .taken, span-read (c .before .before .before) (omega arith), mul-le-mul-left (g .turns) (c .before .before .before .before .before .pre .3 (l .d) i x (omega arith)))))
+    ∙ ap (λ (x : ℕ). spread (choiceOf (g .choice)) (g .n) (g .j) (g .size) (longEnough (g .turns) (g .n) (g .work .now)) x (g .work .now)) e
 
 add-d : tie.Need-add-d Inv-loop μ-loop
 add-d c = omega arith
@@ -83,8 +91,8 @@ loop-again c =
     let g = c .before .before .before .before .before .before .args in
     let l = c .before .before .before .before .loop in (
       omega arith,
-      l .inv .1 ∙ spread-passes (choiceOf (g .choice)) (g .n) (g .j) (g .size) (longEnough turns (g .n) (g .work .now)) (g .work .now) (l .d)
-          (not-long-enough turns (g .n) (g .work .now) (l .d) (omega (arith, c .if2 .taken, unit-read (c .before .before .before .before) (omega arith)))),
+      l .inv .1 ∙ spread-passes (choiceOf (g .choice)) (g .n) (g .j) (g .size) (longEnough (g .turns) (g .n) (g .work .now)) (g .work .now) (l .d)
+          (not-long-enough (g .turns) (g .n) (g .work .now) (l .d) (omega (arith, c .if2 .taken, span-read (c .before .before .before .before) (omega arith)))),
     )
 
 add-m : tie.Need-add-m Inv-loop μ-loop
@@ -107,8 +115,8 @@ loop-again-2 c =
     let g = c .before .before .before .before .before .before .before .before .before .before .args in
     let l = c .before .before .before .before .before .before .before .before .loop in (
       omega arith,
-      c .before .before .offer .ensures ∙ rw (l .inv .1) (spread-takes (choiceOf (g .choice)) (g .n) (g .j) (g .size) (longEnough turns (g .n) (g .work .now)) (g .work .now) (l .d)
-          (long-enough turns (g .n) (g .work .now) (l .d) (omega (arith, c .before .before .before .before .if2 .left, unit-read (c .before .before .before .before .before .before .before .before) (omega arith))))),
+      c .before .before .offer .ensures ∙ rw (l .inv .1) (spread-takes (choiceOf (g .choice)) (g .n) (g .j) (g .size) (longEnough (g .turns) (g .n) (g .work .now)) (g .work .now) (l .d)
+          (long-enough (g .turns) (g .n) (g .work .now) (l .d) (omega (arith, c .before .before .before .before .if2 .left, span-read (c .before .before .before .before .before .before .before .before) (omega arith))))),
     )
 
 same-length-2 : tie.Need-same-length-2 Inv-loop μ-loop

@@ -5,9 +5,9 @@ use native.Mathlib.Omega.{arith}
 use native.Mathlib.Nat.{div-le-self, mod-le}
 use borrow.Author.Needs.{needs}
 use lib.ListN.{length}
-use Rattle.periods.specs.Period.{anyPeriod, turns}
+use Rattle.periods.specs.Period.{anyPeriod}
 use Rattle.repetitions.proofs.Blocks.{block-up}
-use Rattle.report.specs.Text.{blockName, blockLine}
+use Rattle.report.specs.Text.{printedTurns, blockName, blockLine}
 use Rattle.writers.specs.Line.{line}
 use Rattle.writers.proofs.Stores.{stored, stored-as, ensured}
 use Rattle.report.proofs.Lines.{block-line-is, block-unit, found-is-run-number, found-most}
@@ -15,10 +15,10 @@ use Rattle.report.proofs.inner.block_line.Statement.{statement}
 use Rattle.report.proofs.inner.block_line.Tie as tie
 
 sub-smallest-period : tie.Need-sub-smallest-period
-sub-smallest-period c = omega (arith, block-up anyPeriod turns (c .before .before .args .w .now) (c .before .before .args .before) (c .before .before .args .end) (c .before .before .pre .0 .3))
+sub-smallest-period c = omega (arith, block-up anyPeriod printedTurns (c .before .before .args .w .now) (c .before .before .args .before) (c .before .before .args .end) (c .before .before .pre .0 .3))
 
 part-smallest-period-start : tie.Need-part-smallest-period-start
-part-smallest-period-start c = omega (arith, block-up anyPeriod turns (c .before .before .args .w .now) (c .before .before .args .before) (c .before .before .args .end) (c .before .before .pre .0 .3))
+part-smallest-period-start c = omega (arith, block-up anyPeriod printedTurns (c .before .before .args .w .now) (c .before .before .args .before) (c .before .before .args .end) (c .before .before .pre .0 .3))
 
 part-smallest-period-end : tie.Need-part-smallest-period-end
 part-smallest-period-end c = search needs

@@ -5,11 +5,11 @@ use mathlib.Core.List.{[]}
 use Prim.Native.Nat.{_+_, _-_, _≤_}
 use native.Mathlib.Omega.{arith}
 use lib.ListN.{length, getD, drop}
-use Rattle.periods.specs.Period.{anyPeriod, turns}
+use Rattle.periods.specs.Period.{anyPeriod}
 use Rattle.factors.specs.Factorization.{Chain}
 use Rattle.repetitions.specs.Block.{Block}
 use Rattle.repetitions.proofs.Blocks.{block-up}
-use Rattle.report.specs.Text.{blockLine, blockLines}
+use Rattle.report.specs.Text.{printedTurns, blockLine, blockLines}
 use Rattle.writers.proofs.Stores.{Left, stored, stored-length, ensured, left-all, left-as, left-less, left-none}
 use Rattle.report.proofs.Lines.{block-lines-long, block-lines-more, block-lines-done, chain-more}
 use Rattle.report.proofs.Splits.{split-half}
@@ -18,7 +18,7 @@ use Rattle.report.proofs.inner.block_lines.Tie as tie
 
 abbrev Inv-loop : tie.InvT-loop
 Inv-loop w ends runs count out₀ at next₀ before₀ k₀ out next before k =
-    (k ≤ before) × (k ≤ length ends) × (length out ≡ length out₀) × Chain (Block anyPeriod turns w) before (drop k ends) (length w) × Left out₀ next₀ (blockLines w 0 0 ends) out next (blockLines w k before (drop k ends))
+    (k ≤ before) × (k ≤ length ends) × (length out ≡ length out₀) × Chain (Block anyPeriod printedTurns w) before (drop k ends) (length w) × Left out₀ next₀ (blockLines w 0 0 ends) out next (blockLines w k before (drop k ends))
 
 abbrev μ-loop : tie.MeasureT-loop
 μ-loop w ends runs count out₀ at next₀ before₀ k₀ out next before k = length ends - k
@@ -36,12 +36,12 @@ cast-end : tie.Need-cast-end Inv-loop μ-loop
 cast-end c = omega (arith, c .shared-slice-known3 .given (c .before .before .loop .k))
 
 -- the block of this turn, and the rest of the split
-turn : (c : tie.After-block-line-arg Inv-loop μ-loop) → Block anyPeriod turns (c .before .before .before .before .before .before .before .args .w .now) (c .before .before .before .loop .before) (getD (c .before .before .before .before .before .before .before .args .ends .now) (c .before .before .before .loop .k) 0)
-    × Chain (Block anyPeriod turns (c .before .before .before .before .before .before .before .args .w .now)) (getD (c .before .before .before .before .before .before .before .args .ends .now) (c .before .before .before .loop .k) 0) (drop (c .before .before .before .loop .k + 1) (c .before .before .before .before .before .before .before .args .ends .now)) (length (c .before .before .before .before .before .before .before .args .w .now))
+turn : (c : tie.After-block-line-arg Inv-loop μ-loop) → Block anyPeriod printedTurns (c .before .before .before .before .before .before .before .args .w .now) (c .before .before .before .loop .before) (getD (c .before .before .before .before .before .before .before .args .ends .now) (c .before .before .before .loop .k) 0)
+    × Chain (Block anyPeriod printedTurns (c .before .before .before .before .before .before .before .args .w .now)) (getD (c .before .before .before .before .before .before .before .args .ends .now) (c .before .before .before .loop .k) 0) (drop (c .before .before .before .loop .k + 1) (c .before .before .before .before .before .before .before .args .ends .now)) (length (c .before .before .before .before .before .before .before .args .w .now))
 turn c =
     let g = c .before .before .before .before .before .before .before .args in
     let l = c .before .before .before .loop in
-    chain-more (Block anyPeriod turns (g .w .now)) (g .ends .now) (l .k) (l .before) (length (g .w .now)) (omega arith) (l .inv .3)
+    chain-more (Block anyPeriod printedTurns (g .w .now)) (g .ends .now) (l .k) (l .before) (length (g .w .now)) (omega arith) (l .inv .3)
 
 block-line-requires : tie.Need-block-line-requires Inv-loop μ-loop
 block-line-requires c κs =
@@ -65,7 +65,7 @@ loop-again c =
     let w = g .w .now in
     let end = getD (g .ends .now) (l .k) 0 in
     let T = turn (c .before .before .before) in
-    let up = block-up anyPeriod turns w (l .before) end (T .0) in
+    let up = block-up anyPeriod printedTurns w (l .before) end (T .0) in
     let S = stored (l .out) (l .next) (blockLine w (l .k + 1) (l .before) end) _ _ (c .before .before .block-line .ensures) in (
       omega arith,
       omega arith,

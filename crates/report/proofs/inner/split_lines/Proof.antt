@@ -81,7 +81,7 @@ abbrev blocks : Known → ℕ
 blocks c = c .before .before .before .before .before .before .best .given .0 .0
 
 abbrev ends-written : Known → List ℕ
-ends-written c = c .before .before .before .before .before .before .before .before .before .before .best-split .last .1 .1 .0
+ends-written c = c .before .before .before .before .before .before .before .before .before .before .best-split .last .1 .1 .1 .0
 
 -- what the answer of best split says
 counted : (c : Known) → Blocked (word c) (choice-given c) (name-given c) (blocks c) (ends-written c)
@@ -89,12 +89,12 @@ counted c =
     let p = c .before .before .before .before .before .before .before .before .before .before .before .before .before .before .before .before .pre .0 in
     let s = c .before .before .before .before .before .before .before .before .before .before .best-split in
     split-counted (word c) (choice-given c) (name-given c) ends-lent work-lent (p .1) (p .2) (p .3) (length-replicate {A = ℕ} mostBlocks 0) (length-replicate {A = ℕ} (rows * (programLimit + 1)) 0)
-    (s .result) (blocks c) (c .before .before .before .before .before .before .best .given .1) (s .ensures .0) (s .last .1 .1 .0) (s .ensures .1 .0)
+    (s .result) (blocks c) (c .before .before .before .before .before .before .best .given .1) (s .ensures .0) (s .last .1 .1 .1 .0) (s .ensures .1 .0)
 
 part-block-lines-end : tie.Need-part-block-lines-end
 part-block-lines-end c =
     let k = c .before in
-    omega (arith, counted k .few, k .before .before .before .before .before .before .before .before .before .before .best-split .kept .1 .1 .0, length-replicate {A = ℕ} mostBlocks 0, k .before .before .before .before .before .before .before .before .before .before .before .before .before .before .before .before .pre .0 .1)
+    omega (arith, counted k .few, k .before .before .before .before .before .before .before .before .before .before .best-split .kept .1 .1 .1 .0, length-replicate {A = ℕ} mostBlocks 0, k .before .before .before .before .before .before .before .before .before .before .before .before .before .before .before .before .pre .0 .1)
 
 block-lines-requires : tie.Need-block-lines-requires
 block-lines-requires c κs =
