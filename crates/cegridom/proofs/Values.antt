@@ -46,7 +46,7 @@ answered-values turns c w e v o x (Answered.written es a b p k) = known 1 o _ p 
 pub best-values : (w : List ℕ) (edition choice : ℕ) (e t : List ℕ) (o : Outcome) (x y : List ℕ) → BestMeaning w edition choice e t o x y → HasValues 1 o
 best-values w edition choice e t o x y (BestMeaning.too-long a p k l) = known 1 o (refused 1 0) p (lit≤ tt)
 best-values w edition choice e t o x y (BestMeaning.bad-edition a i p k l) = known 1 o (refused 12 0) p (lit≤ tt)
-best-values w edition choice e t o x y (BestMeaning.bad-choice a i b d p k l) = known 1 o (refused 8 0) p (lit≤ tt)
+best-values w edition choice e t o x y (BestMeaning.bad-choice a i b p k l) = known 1 o (refused 8 0) p (lit≤ tt)
 best-values w edition choice e t o x y (BestMeaning.short-table a i b d p k l) = known 1 o (refused 9 0) p (lit≤ tt)
 best-values w edition choice e t o x y (BestMeaning.settled a i b d s) = answered-values _ _ w e _ o x (s .answered)
 

@@ -1,2 +1,3 @@
 pub mod Tests
+pub mod OneOrTwo
 pub mod Stores

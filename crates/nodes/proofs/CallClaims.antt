@@ -13,7 +13,7 @@ use lib.Seq.{sets}
 use Rattle.answers.specs.Outcome.{Outcome, accepted, refused, limit}
 use Rattle.periods.specs.Period.{anyPeriod}
 use Rattle.periods.specs.Edition.{Edition, turnsOf}
-use Rattle.periods.proofs.Editions.{good-edition, bad-edition, edition?}
+use Rattle.periods.proofs.Editions.{test-of-edition, test-of-no-edition, edition?}
 use Rattle.runs.specs.Table.{runsOf}
 use Rattle.nodes.specs.Node.{nodesAt}
 use Rattle.nodes.specs.Calls.{nodesOutcome, nodesTable, NodesMeaning, ListsNodes}
@@ -56,28 +56,28 @@ module _ (w : List ℕ) (edition x : ℕ) where
 
     pub nodes-bad-edition : length w ≤ limit → (Edition edition → ⊥) → NodesGive w edition x t (refused 12 0) t
     unfolding nodesOutcome nodesTable
-    nodes-bad-edition h i = (simp (le-ltb limit (length w) h, bad-edition edition i), simp (le-ltb limit (length w) h, bad-edition edition i))
+    nodes-bad-edition h i = (simp (le-ltb limit (length w) h, test-of-no-edition edition i), simp (le-ltb limit (length w) h, test-of-no-edition edition i))
 
     module _ (h : length w ≤ limit) (i : Edition edition) where
       pub nodes-outside : (Inside w x → ⊥) → NodesGive w edition x t (refused 6 0) t
       unfolding nodesOutcome nodesTable
       nodes-outside k = (
-        simp (le-ltb limit (length w) h, good-edition edition i, outside-tests k),
-        simp (le-ltb limit (length w) h, good-edition edition i, outside-tests k),
+        simp (le-ltb limit (length w) h, test-of-edition edition i, outside-tests k),
+        simp (le-ltb limit (length w) h, test-of-edition edition i, outside-tests k),
       )
 
       pub nodes-few : Inside w x → length t < length numbers → NodesGive w edition x t (refused 7 0) t
       unfolding nodesOutcome nodesTable
       nodes-few k l = (
-        simp (le-ltb limit (length w) h, good-edition edition i, within-tests k, lt-ltb (length t) (length numbers) l),
-        simp (le-ltb limit (length w) h, good-edition edition i, within-tests k, lt-ltb (length t) (length numbers) l),
+        simp (le-ltb limit (length w) h, test-of-edition edition i, within-tests k, lt-ltb (length t) (length numbers) l),
+        simp (le-ltb limit (length w) h, test-of-edition edition i, within-tests k, lt-ltb (length t) (length numbers) l),
       )
 
       pub nodes-all : Inside w x → length numbers ≤ length t → NodesGive w edition x t (accepted (length numbers ∷ [])) (numbers ++ drop (length numbers) t)
       unfolding nodesOutcome nodesTable
       nodes-all k l = (
-        simp (le-ltb limit (length w) h, good-edition edition i, within-tests k, le-ltb (length t) (length numbers) l),
-        simp (le-ltb limit (length w) h, good-edition edition i, within-tests k, le-ltb (length t) (length numbers) l),
+        simp (le-ltb limit (length w) h, test-of-edition edition i, within-tests k, le-ltb (length t) (length numbers) l),
+        simp (le-ltb limit (length w) h, test-of-edition edition i, within-tests k, le-ltb (length t) (length numbers) l),
       )
 
       pub nodes-too-few : (u : List ℕ) (count : ℕ) → Inside w x → count ≡ length numbers → u ≡ t → length t < count → NodesGive w edition x t (refused 7 0) u

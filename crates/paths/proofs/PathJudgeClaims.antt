@@ -16,8 +16,7 @@ use Rattle.answers.proofs.Claims.{refused-accepted}
 use Rattle.answers.specs.Outcome.{Outcome, accepted, refused, limit}
 use Rattle.periods.specs.Period.{anyPeriod}
 use Rattle.periods.specs.Edition.{Edition, turnsOf}
-use Rattle.periods.proofs.Editions.{two-turns, good-edition, edition?}
-use Rattle.periods.proofs.Editions as editions
+use Rattle.periods.proofs.Editions.{two-turns, test-of-edition, test-of-no-edition, edition?}
 use Rattle.runs.specs.declared.Record.{Record}
 use Rattle.runs.specs.Run.{Entry}
 use Rattle.runs.specs.Table.{runsOf}
@@ -184,16 +183,16 @@ module _ (w : List ℕ) (edition : ℕ) (ns : List ℕ) where
 
   pub path-bad-edition : length w ≤ limit → (Edition edition → ⊥) → refused 12 0 ≡ pathJudgedOutcome w edition ns
   unfolding pathJudgedOutcome
-  path-bad-edition h i = simp (le-ltb limit (length w) h, editions.bad-edition edition i)
+  path-bad-edition h i = simp (le-ltb limit (length w) h, test-of-no-edition edition i)
 
   pub path-odd : length w ≤ limit → Edition edition → length ns % 2 ≡ 1 → refused 10 0 ≡ pathJudgedOutcome w edition ns
   unfolding pathJudgedOutcome
-  path-odd h i q = simp (le-ltb limit (length w) h, good-edition edition i, eq-eqb (length ns % 2) 1 q)
+  path-odd h i q = simp (le-ltb limit (length w) h, test-of-edition edition i, eq-eqb (length ns % 2) 1 q)
 
   pub path-judged : length w ≤ limit → Edition edition → (length ns % 2 ≡ 1 → ⊥)
       → verdict (segment? anyPeriod (turnsOf edition) w ns) (length w) (endsOfPairs ns) ≡ pathJudgedOutcome w edition ns
   unfolding pathJudgedOutcome
-  path-judged h i q = simp (le-ltb limit (length w) h, good-edition edition i, ne-eqb (length ns % 2) 1 q)
+  path-judged h i q = simp (le-ltb limit (length w) h, test-of-edition edition i, ne-eqb (length ns % 2) 1 q)
 
   -- CLAIM: judge a path says what the documents ask
   pub path-judged-means : PathJudgedMeaning w edition ns (pathJudgedOutcome w edition ns)

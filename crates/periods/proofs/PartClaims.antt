@@ -19,8 +19,7 @@ use Rattle.periods.specs.Edition.{Edition, turnsOf}
 use Rattle.periods.specs.Part.{flag, partView, description, partOutcome, Within, Describes, PartMeaning, too-long, bad-edition, outside, described}
 use Rattle.periods.proofs.InPlace.{placed-part}
 use Rattle.periods.proofs.Claims.{smallest-period-is, repetition-sound, repetition-complete}
-use Rattle.periods.proofs.Editions.{good-edition, edition?}
-use Rattle.periods.proofs.Editions as editions
+use Rattle.periods.proofs.Editions.{test-of-edition, test-of-no-edition, edition?}
 
 -- ---- the description
 
@@ -84,16 +83,16 @@ module _ (w : List ℕ) (edition first last : ℕ) where
 
   pub part-bad-edition : length w ≤ limit → (Edition edition → ⊥) → refused 12 0 ≡ partOutcome w edition first last
   unfolding partOutcome
-  part-bad-edition h e = simp (le-ltb limit (length w) h, editions.bad-edition edition e)
+  part-bad-edition h e = simp (le-ltb limit (length w) h, test-of-no-edition edition e)
 
   pub part-outside : length w ≤ limit → Edition edition → (Within w first last → ⊥) → refused 6 0 ≡ partOutcome w edition first last
   unfolding partOutcome
-  part-outside h e k = simp (le-ltb limit (length w) h, good-edition edition e, outside-tests w first last k)
+  part-outside h e k = simp (le-ltb limit (length w) h, test-of-edition edition e, outside-tests w first last k)
 
   pub part-described : length w ≤ limit → Edition edition → Within w first last
       → accepted (description (turnsOf edition) (part w (first - 1) last)) ≡ partOutcome w edition first last
   unfolding partOutcome
-  part-described h e k = simp (le-ltb limit (length w) h, good-edition edition e, within-tests w first last k)
+  part-described h e k = simp (le-ltb limit (length w) h, test-of-edition edition e, within-tests w first last k)
 
   -- CLAIM: what the part call answers means what the documents say
   pub part-means : PartMeaning w edition first last (partOutcome w edition first last)

@@ -2,21 +2,20 @@
 -- factorization, and if so the best size (factors/proofs/Optimal.antt); the previous boundaries lead back over the ends that win the tie; and the
 -- factorizations of a prefix in place are those that it has as a word of its own. Assumes nothing.
 use mathlib.Core.Path.{_≡_, refl, sym, ap, _∙_, subst}
-use mathlib.Core.Logic.{_⊎_, inl, inr}
-use mathlib.Core.Bool.{Bool, cond, or-true}
+use mathlib.Core.Bool.{Bool, cond}
 use mathlib.Core.List.{List, _++_, append-assoc}
 use Prim.Native.Nat.{ℕ, suc, _+_, _-_, _*_, _≤_, _<_}
 use native.Mathlib.Omega.{arith}
-use native.Mathlib.Decide.{decLt, ℕ-discrete}
+use native.Mathlib.Decide.{decLt}
 use borrow.Author.Tests.{lt-ltb, le-ltb, ne-eqb}
 use lib.Dec.{ltb, eqb}
 use lib.ListN.{length, getD, take, drop, replicate, length-append, length-take, length-drop, length-replicate, getD-replicate, replicate-append-replicate, List·getD-append}
 use lib.Seq.{take-at, drop-at, getD-append-add, drop-append-add}
+use Rattle.laws.proofs.OneOrTwo.{OneOrTwo, one-or-two?, test-of-one-or-two, test-of-other}
 use Rattle.answers.specs.Outcome.{Outcome, refused, limit}
 use Rattle.periods.specs.Period.{anyPeriod}
 use Rattle.periods.specs.Edition.{Edition, turnsOf}
-use Rattle.periods.proofs.Editions.{good-edition, edition?}
-use Rattle.periods.proofs.Editions as editions
+use Rattle.periods.proofs.Editions.{test-of-edition, test-of-no-edition, edition?}
 use Rattle.factors.specs.Factorization.{Factorization, Choice, choiceOf, Cell, unreachable, reached, cell, bestEnds}
 use Rattle.factors.specs.Table.{none, rows, sizeIn, sizes, previous, filled, endsBack, Linked}
 use Rattle.factors.proofs.Optimal.{Answers, best-factorization, size-bound}
@@ -180,22 +179,19 @@ module _ (w : List ℕ) (edition choice : ℕ) (e t : List ℕ) where
   tested-long a s b d r h = rw (lt-ltb limit (length w) h) refl
 
   tested-bad-edition : {A : Type 0} (a s b d r : A) → length w ≤ limit → (Edition edition → ⊥) → tested w edition choice (length t) a s b d r ≡ s
-  tested-bad-edition a s b d r h i = rw (le-ltb limit (length w) h, editions.bad-edition edition i) refl
+  tested-bad-edition a s b d r h i = rw (le-ltb limit (length w) h, test-of-no-edition edition i) refl
 
-  tested-bad : {A : Type 0} (a s b d r : A) → length w ≤ limit → Edition edition → (choice < 1) ⊎ (2 < choice) → tested w edition choice (length t) a s b d r ≡ b
-  tested-bad a s b d r h i (inl x) = rw (le-ltb limit (length w) h, good-edition edition i, lt-ltb choice 1 x) refl
-  tested-bad a s b d r h i (inr x) =
-      rw (le-ltb limit (length w) h, good-edition edition i, lt-ltb 2 choice x)
-      (ap (λ (u : Bool). cond u b (cond (ltb (length t) (rows * (length w + 1))) d r)) (or-true (ltb choice 1)))
+  module _ (h : length w ≤ limit) (i : Edition edition) where
+    tested-bad-choice : {A : Type 0} (a s b d r : A) → (OneOrTwo choice → ⊥) → tested w edition choice (length t) a s b d r ≡ b
+    tested-bad-choice a s b d r x = simp (le-ltb limit (length w) h, test-of-edition edition i, test-of-other choice x)
 
-  module _ (h : length w ≤ limit) (i : Edition edition) (x : 1 ≤ choice) (y : choice ≤ 2) where
-    tested-short : {A : Type 0} (a s b d r : A) → length t < rows * (length w + 1) → tested w edition choice (length t) a s b d r ≡ d
-    tested-short a s b d r z =
-        simp (le-ltb limit (length w) h, good-edition edition i, le-ltb choice 1 x, le-ltb 2 choice y, lt-ltb (length t) (rows * (length w + 1)) z)
+    tested-short : {A : Type 0} (a s b d r : A) → OneOrTwo choice → length t < rows * (length w + 1) → tested w edition choice (length t) a s b d r ≡ d
+    tested-short a s b d r x z =
+        simp (le-ltb limit (length w) h, test-of-edition edition i, test-of-one-or-two choice x, lt-ltb (length t) (rows * (length w + 1)) z)
 
-    tested-fine : {A : Type 0} (a s b d r : A) → rows * (length w + 1) ≤ length t → tested w edition choice (length t) a s b d r ≡ r
-    tested-fine a s b d r z =
-        simp (le-ltb limit (length w) h, good-edition edition i, le-ltb choice 1 x, le-ltb 2 choice y, le-ltb (length t) (rows * (length w + 1)) z)
+    tested-fine : {A : Type 0} (a s b d r : A) → OneOrTwo choice → rows * (length w + 1) ≤ length t → tested w edition choice (length t) a s b d r ≡ r
+    tested-fine a s b d r x z =
+        simp (le-ltb limit (length w) h, test-of-edition edition i, test-of-one-or-two choice x, le-ltb (length t) (rows * (length w + 1)) z)
 
   -- the three promises: the answer, the ends and the work
   pub record Promised (o : Outcome) (x y : List ℕ) : Type 0 where
@@ -211,18 +207,18 @@ module _ (w : List ℕ) (edition choice : ℕ) (e t : List ℕ) where
   unfolding bestOutcome bestEndsTable bestWork
   promised-bad-edition h i = record { answer = sym (tested-bad-edition _ _ _ _ _ h i); ends = sym (tested-bad-edition _ _ _ _ _ h i); work = sym (tested-bad-edition _ _ _ _ _ h i) }
 
-  pub promised-bad : length w ≤ limit → Edition edition → (choice < 1) ⊎ (2 < choice) → Promised (refused 8 0) e t
+  pub promised-bad-choice : length w ≤ limit → Edition edition → (OneOrTwo choice → ⊥) → Promised (refused 8 0) e t
   unfolding bestOutcome bestEndsTable bestWork
-  promised-bad h i k = record { answer = sym (tested-bad _ _ _ _ _ h i k); ends = sym (tested-bad _ _ _ _ _ h i k); work = sym (tested-bad _ _ _ _ _ h i k) }
+  promised-bad-choice h i x = record { answer = sym (tested-bad-choice h i _ _ _ _ _ x); ends = sym (tested-bad-choice h i _ _ _ _ _ x); work = sym (tested-bad-choice h i _ _ _ _ _ x) }
 
-  pub promised-short : length w ≤ limit → Edition edition → 1 ≤ choice → choice ≤ 2 → length t < rows * (length w + 1) → Promised (refused 9 0) e t
+  pub promised-short : length w ≤ limit → Edition edition → OneOrTwo choice → length t < rows * (length w + 1) → Promised (refused 9 0) e t
   unfolding bestOutcome bestEndsTable bestWork
-  promised-short h i x y k = record { answer = sym (tested-short h i x y _ _ _ _ _ k); ends = sym (tested-short h i x y _ _ _ _ _ k); work = sym (tested-short h i x y _ _ _ _ _ k) }
+  promised-short h i x k = record { answer = sym (tested-short h i _ _ _ _ _ x k); ends = sym (tested-short h i _ _ _ _ _ x k); work = sym (tested-short h i _ _ _ _ _ x k) }
 
-  pub promised-settled : length w ≤ limit → Edition edition → 1 ≤ choice → choice ≤ 2 → rows * (length w + 1) ≤ length t
+  pub promised-settled : length w ≤ limit → Edition edition → OneOrTwo choice → rows * (length w + 1) ≤ length t
       → Promised (sizeOutcome (lastCell (turnsOf edition) w choice) (length e)) (settledEnds (turnsOf edition) w choice e) (settledWork (turnsOf edition) w choice t)
   unfolding bestOutcome bestEndsTable bestWork
-  promised-settled h i x y k = record { answer = sym (tested-fine h i x y _ _ _ _ _ k); ends = sym (tested-fine h i x y _ _ _ _ _ k); work = sym (tested-fine h i x y _ _ _ _ _ k) }
+  promised-settled h i x k = record { answer = sym (tested-fine h i _ _ _ _ _ x k); ends = sym (tested-fine h i _ _ _ _ _ x k); work = sym (tested-fine h i _ _ _ _ _ x k) }
 
   -- the working table after an answer, 2 and 7
   pub settled-table : rows * (length w + 1) ≤ length t → length w < none
@@ -283,25 +279,17 @@ module _ (w : List ℕ) (edition choice : ℕ) (e t : List ℕ) where
       by : {o : Outcome} {x y : List ℕ} → Promised o x y → BestMeaning w edition choice e t o x y → BestMeaning w edition choice e t (bestOutcome w edition choice e t) (bestEndsTable w edition choice e t) (bestWork w edition choice t)
       by P M = rw (← P .answer, ← P .ends, ← P .work) M
 
-      one-two : 1 ≤ choice → choice ≤ 2 → Dec (choice ≡ 1) → (choice ≡ 1) ⊎ (choice ≡ 2)
-      one-two i j (yes z) = inl z
-      one-two i j (no z) = inr (omega arith)
-
-      chosen : length w ≤ limit → Edition edition → Dec (choice < 1) → Dec (2 < choice) → Dec (length t < rows * (length w + 1))
+      chosen : length w ≤ limit → Edition edition → Dec (OneOrTwo choice) → Dec (length t < rows * (length w + 1))
           → BestMeaning w edition choice e t (bestOutcome w edition choice e t) (bestEndsTable w edition choice e t) (bestWork w edition choice t)
-      chosen h i (yes a) b d = by (promised-bad h i (inl a)) (bad-choice h i (λ z. omega arith) (λ z. omega arith) refl refl refl)
-      chosen h i (no a) (yes b) d = by (promised-bad h i (inr b)) (bad-choice h i (λ z. omega arith) (λ z. omega arith) refl refl refl)
-      chosen h i (no a) (no b) (yes d) =
-          by (promised-short h i (omega arith) (omega arith) d) (short-table h i (one-two (omega arith) (omega arith) (ℕ-discrete choice 1)) d refl refl refl)
-      chosen h i (no a) (no b) (no d) =
-          by (promised-settled h i (omega arith) (omega arith) (omega arith))
-          (settled h i (one-two (omega arith) (omega arith) (ℕ-discrete choice 1)) (omega arith) (settled-table (omega arith) (omega arith)))
+      chosen h i (no x) d = by (promised-bad-choice h i x) (bad-choice h i x refl refl refl)
+      chosen h i (yes x) (yes d) = by (promised-short h i x d) (short-table h i x d refl refl refl)
+      chosen h i (yes x) (no d) = by (promised-settled h i x (omega arith)) (settled h i x (omega arith) (settled-table (omega arith) (omega arith)))
 
       go : Dec (limit < length w) → Dec (Edition edition)
           → BestMeaning w edition choice e t (bestOutcome w edition choice e t) (bestEndsTable w edition choice e t) (bestWork w edition choice t)
       go (yes h) i = by (promised-long h) (too-long h refl refl refl)
       go (no h) (no i) = by (promised-bad-edition (omega arith) i) (bad-edition (omega arith) i refl refl refl)
-      go (no h) (yes i) = chosen (omega arith) i (decLt choice 1) (decLt 2 choice) (decLt (length t) (rows * (length w + 1)))
+      go (no h) (yes i) = chosen (omega arith) i (one-or-two? choice) (decLt (length t) (rows * (length w + 1)))
 
   -- what the call ensures, from the three promises
   pub best-answered : (o : Outcome) (x y : List ℕ) → Promised o x y

@@ -1,7 +1,6 @@
 -- The meanings in the contracts of this crate's calls leave nothing open: only the answer and the tables that the computed definitions give have them. A
 -- verdict with its meaning is one only, so is a best factorization, and a factorization has one path. By cases on the meanings. Assumes nothing.
 use mathlib.Core.Path.{_≡_, sym, ap, ap₂, _∙_, subst}
-use mathlib.Core.Logic.{_⊎_, inl, inr}
 use mathlib.Core.List.{List, [], _∷_, _++_}
 use Prim.Native.Nat.{ℕ, _+_, _-_, _*_, _≤_, _<_}
 use native.Mathlib.Omega.{arith}
@@ -19,7 +18,7 @@ use Rattle.repetitions.specs.Block.{Block, block?}
 use Rattle.repetitions.specs.BestSplit.{bestOutcome, bestEndsTable, bestWork, Reported, Answered, Settled, BestMeaning}
 use Rattle.repetitions.specs.Judge.{splitOutcome, SplitMeaning}
 use Rattle.repetitions.proofs.Blocks.{block-sound, block-complete}
-use Rattle.repetitions.proofs.BestClaims.{Promised, promised-long, promised-bad-edition, promised-bad, promised-short, promised-settled, settled-table}
+use Rattle.repetitions.proofs.BestClaims.{Promised, promised-long, promised-bad-edition, promised-bad-choice, promised-short, promised-settled, settled-table}
 use Rattle.repetitions.proofs.JudgeClaims.{split-too-long, split-bad-edition, split-judged}
 use Rattle.repetitions.specs.BestSplit as split
 use Rattle.repetitions.specs.Judge as judge
@@ -75,31 +74,15 @@ module _ (w : List ℕ) (edition choice : ℕ) (e t : List ℕ) where
       by : {p : Outcome} {u z : List ℕ} → o ≡ p → x ≡ u → y ≡ z → Promised w edition choice e t p u z → (o ≡ bestOutcome w edition choice e t) × (x ≡ bestEndsTable w edition choice e t) × (y ≡ bestWork w edition choice t)
       by a b d P = (a ∙ P .answer, b ∙ P .ends, d ∙ P .work)
 
-      low : (choice ≡ 1) ⊎ (choice ≡ 2) → 1 ≤ choice
-      low (inl q) = omega arith
-      low (inr q) = omega arith
-
-      high : (choice ≡ 1) ⊎ (choice ≡ 2) → choice ≤ 2
-      high (inl q) = omega arith
-      high (inr q) = omega arith
-
-      neither : (choice ≡ 1 → ⊥) → (choice ≡ 2 → ⊥) → Dec (choice < 1) → (choice < 1) ⊎ (2 < choice)
-      neither a b (yes l) = inl l
-      neither a b (no l) = inr (above (decLt 2 choice))
-        where
-          above : Dec (2 < choice) → 2 < choice
-          above (yes h) = h
-          above (no h) = absurd (b (omega (arith, a)))
-
       go : BestMeaning w edition choice e t o x y → (o ≡ bestOutcome w edition choice e t) × (x ≡ bestEndsTable w edition choice e t) × (y ≡ bestWork w edition choice t)
       go (split.BestMeaning.too-long h a b d) = by a b d (promised-long w edition choice e t h)
       go (split.BestMeaning.bad-edition h i a b d) = by a b d (promised-bad-edition w edition choice e t h i)
-      go (split.BestMeaning.bad-choice h i n m a b d) = by a b d (promised-bad w edition choice e t h i (neither n m (decLt choice 1)))
-      go (split.BestMeaning.short-table h i c k a b d) = by a b d (promised-short w edition choice e t h i (low c) (high c) k)
+      go (split.BestMeaning.bad-choice h i n a b d) = by a b d (promised-bad-choice w edition choice e t h i n)
+      go (split.BestMeaning.short-table h i c k a b d) = by a b d (promised-short w edition choice e t h i c k)
       go (split.BestMeaning.settled h i c k S) =
           let R = settled-table w edition choice e t k (omega arith) in
           let q = answered-unique (turnsOf edition) (choiceOf choice) w e _ _ o _ x _ (S .answered) (R .answered) in
-          by (q .0) (q .1) (work-unique o _ x _ y _ S R) (promised-settled w edition choice e t h i (low c) (high c) k)
+          by (q .0) (q .1) (work-unique o _ x _ y _ S R) (promised-settled w edition choice e t h i c k)
 
 -- ---- judge a split
 

@@ -11,8 +11,7 @@ use lib.ListN.{length}
 use Rattle.answers.specs.Outcome.{Outcome, refused, limit}
 use Rattle.periods.specs.Period.{part, smallestPeriod, anyPeriod}
 use Rattle.periods.specs.Edition.{Edition, turnsOf}
-use Rattle.periods.proofs.Editions.{good-edition, edition?}
-use Rattle.periods.proofs.Editions as editions
+use Rattle.periods.proofs.Editions.{test-of-edition, test-of-no-edition, edition?}
 use Rattle.periods.proofs.InPlace.{placed-part}
 use Rattle.periods.proofs.PartClaims.{repetition-any}
 use Rattle.factors.specs.Verdict.{verdict}
@@ -30,11 +29,11 @@ module _ (w : List ℕ) (edition : ℕ) (ends : List ℕ) where
 
   pub split-bad-edition : length w ≤ limit → (Edition edition → ⊥) → refused 12 0 ≡ splitOutcome w edition ends
   unfolding splitOutcome
-  split-bad-edition h i = simp (le-ltb limit (length w) h, editions.bad-edition edition i)
+  split-bad-edition h i = simp (le-ltb limit (length w) h, test-of-no-edition edition i)
 
   pub split-judged : length w ≤ limit → Edition edition → verdict (λ m. block? anyPeriod (turnsOf edition) w) (length w) ends ≡ splitOutcome w edition ends
   unfolding splitOutcome
-  split-judged h i = simp (le-ltb limit (length w) h, good-edition edition i)
+  split-judged h i = simp (le-ltb limit (length w) h, test-of-edition edition i)
 
   -- CLAIM: judge a split says what the documents ask
   pub split-means : SplitMeaning w edition ends (splitOutcome w edition ends)

@@ -90,7 +90,7 @@ pub data BestMeaning (w : List ℕ) (edition choice : ℕ) (e t : List ℕ) (o :
   too-long : limit < length w → o ≡ refused 1 0 → x ≡ e → y ≡ t → BestMeaning w edition choice e t o x y
   bad-edition : length w ≤ limit → (Edition edition → ⊥) → o ≡ refused 12 0 → x ≡ e → y ≡ t → BestMeaning w edition choice e t o x y
   bad-choice :
-      length w ≤ limit → Edition edition → (choice ≡ 1 → ⊥) → (choice ≡ 2 → ⊥) → o ≡ refused 8 0 → x ≡ e → y ≡ t → BestMeaning w edition choice e t o x y
+      length w ≤ limit → Edition edition → ((choice ≡ 1) ⊎ (choice ≡ 2) → ⊥) → o ≡ refused 8 0 → x ≡ e → y ≡ t → BestMeaning w edition choice e t o x y
   short-table :
       length w ≤ limit → Edition edition → (choice ≡ 1) ⊎ (choice ≡ 2) → length t < rows * (length w + 1) → o ≡ refused 9 0 → x ≡ e → y ≡ t
       → BestMeaning w edition choice e t o x y

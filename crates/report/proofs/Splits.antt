@@ -12,6 +12,7 @@ use Rattle.answers.specs.declared.Counted.{Counted}
 use Rattle.answers.specs.declared.Counted.the-variants.{Count, Refused}
 use Rattle.answers.specs.declared.Refusal.{Refusal}
 use Rattle.answers.specs.Outcome.{accepted, refusal, countedView}
+use Rattle.laws.proofs.OneOrTwo.{one-or-two}
 use Rattle.answers.proofs.Claims.{refused-accepted}
 use Rattle.periods.specs.Period.{anyPeriod}
 use Rattle.runs.specs.Table.{runsOf}
@@ -52,7 +53,7 @@ module _ (w : List ℕ) (choice : ℕ) (name e t : List ℕ) (held : length w �
   pub split-refused : (a : Counted) (r : Refusal) → a ≡ Refused r → countedView a ≡ bestOutcome w printedEdition choice e t → name ++ noneText ≡ splitText w choice name
   unfolding splitText
   split-refused a r is f =
-      go (lastCell printedTurns w choice) (word-answers printedTurns (choiceOf choice) w (length w)) (ap countedView (sym is) ∙ f ∙ sym (promised-settled w printedEdition choice e t (omega arith) (inl refl) low high room .answer))
+      go (lastCell printedTurns w choice) (word-answers printedTurns (choiceOf choice) w (length w)) (ap countedView (sym is) ∙ f ∙ sym (promised-settled w printedEdition choice e t (omega arith) (inl refl) (one-or-two choice low high) room .answer))
     where
       go : (v : Cell) → Answers (choiceOf choice) (Block anyPeriod printedTurns w) (length w) v (endsOf w choice) → refusal r ≡ sizeOutcome v (length e)
           → name ++ noneText ≡ splitLines w name v (endsOf w choice)
@@ -65,7 +66,7 @@ module _ (w : List ℕ) (choice : ℕ) (name e t : List ℕ) (held : length w �
   pub split-counted : (a : Counted) (size : ℕ) → a ≡ Count size → countedView a ≡ bestOutcome w printedEdition choice e t → (x : List ℕ) → x ≡ bestEndsTable w printedEdition choice e t → Blocked w choice name size x
   unfolding splitText
   split-counted a size is f x g =
-      let P = promised-settled w printedEdition choice e t (omega arith) (inl refl) low high room in
+      let P = promised-settled w printedEdition choice e t (omega arith) (inl refl) (one-or-two choice low high) room in
       go (lastCell printedTurns w choice) refl (word-answers printedTurns (choiceOf choice) w (length w)) (ap countedView (sym is) ∙ f ∙ sym (P .answer)) (g ∙ sym (P .ends))
     where
       go : (v : Cell) → lastCell printedTurns w choice ≡ v → Answers (choiceOf choice) (Block anyPeriod printedTurns w) (length w) v (endsOf w choice) → accepted (size ∷ []) ≡ sizeOutcome v (length e)

@@ -1,6 +1,6 @@
 -- `nodes::nodes` meets its contract: each way out is the case of `nodesOutcome` that its tests lead to, and `nodes-mean` says what that means. The first call
 -- of `nodes_at` has no places to write to and only counts. Assumes nothing.
-use mathlib.Core.Path.{_≡_, sym, ap, _∙_, subst}
+use mathlib.Core.Path.{_≡_, sym, ap, _∙_}
 use mathlib.Core.List.{List, _++_}
 use Prim.Native.Nat.{ℕ, _*_, _≤_}
 use native.Mathlib.Omega.{arith}
@@ -10,7 +10,7 @@ use lib.Seq.{sets}
 use Rattle.answers.specs.Outcome.{limit}
 use Rattle.periods.specs.Period.{anyPeriod}
 use Rattle.periods.specs.Edition.{Edition, turnsOf, Turns}
-use Rattle.periods.proofs.Editions.{turns-range, edition-good, edition-bad}
+use Rattle.periods.proofs.Editions.{turns-given, edition-by-test, no-edition-by-test}
 use Rattle.nodes.specs.Node.{nodesAt}
 use Rattle.runs.proofs.Rows.{runs-at-most}
 use Rattle.laws.proofs.Stores.{stored-nowhere}
@@ -21,7 +21,7 @@ use Rattle.nodes.proofs.nodes.Tie as tie
 
 -- once the edition is known to be one
 known : (c : tie.Else2) → Edition (c .before .before .before .before .before .args .edition)
-known c = edition-good (c .before .before .before .before .before .args .edition) (sym (c .before .bad-edition .ensures) ∙ c .if2 .left)
+known c = edition-by-test (c .before .before .before .before .before .args .edition) (sym (c .before .bad-edition .ensures) ∙ c .if2 .left)
 
 -- once the nodes are counted: the arguments, and the numbers of the nodes
 abbrev Counted : Type 0
@@ -71,7 +71,7 @@ bad-edition-requires c κs = search needs
 returns-2 : tie.Need-returns-2
 returns-2 c =
     let g = c .before .before .before .before .before .args in
-    nodes-answered (g .w .now) (g .edition) (g .position) (g .table .now) _ _ (nodes-bad-edition (g .w .now) (g .edition) (g .position) (g .table .now) (omega arith) (edition-bad (g .edition) (sym (c .before .bad-edition .ensures) ∙ c .if2 .taken)))
+    nodes-answered (g .w .now) (g .edition) (g .position) (g .table .now) _ _ (nodes-bad-edition (g .w .now) (g .edition) (g .position) (g .table .now) (omega arith) (no-edition-by-test (g .edition) (sym (c .before .bad-edition .ensures) ∙ c .if2 .taken)))
 
 returns-3 : tie.Need-returns-3
 returns-3 c =
@@ -106,7 +106,7 @@ part-nodes-at-end c = search needs
 
 -- a turn number that was worked out from an edition is one
 few-turns : (c : tie.After-turns) → Turns (c .turns .result)
-few-turns c = subst Turns (sym (c .turns .ensures)) (turns-range (c .before .before .before .before .before .before .before .before .args .edition))
+few-turns c = turns-given (c .before .before .before .before .before .before .before .before .args .edition) _ (c .turns .ensures)
 
 nodes-at-requires : tie.Need-nodes-at-requires
 nodes-at-requires c κs = let k = few-turns (c .before .before .before) in search needs

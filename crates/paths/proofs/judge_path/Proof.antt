@@ -1,13 +1,13 @@
 -- `paths::judge_path` meets its contract: each way out is the case of `pathJudgedOutcome` that its tests lead to, and `path-judged-means` says what that
 -- means. Assumes nothing.
-use mathlib.Core.Path.{sym, ap, _∙_, subst}
+use mathlib.Core.Path.{sym, ap, _∙_}
 use Prim.Native.Nat.{ℕ}
 use native.Mathlib.Omega.{arith}
 use borrow.Author.Needs.{needs}
 use lib.ListN.{length}
 use Rattle.periods.specs.Period.{anyPeriod}
-use Rattle.periods.specs.Edition.{Edition, Turns}
-use Rattle.periods.proofs.Editions.{turns-range, edition-good, edition-bad}
+use Rattle.periods.specs.Edition.{Edition}
+use Rattle.periods.proofs.Editions.{turns-given, edition-by-test, no-edition-by-test}
 use Rattle.factors.specs.Verdict.{verdict}
 use Rattle.paths.specs.Graph.{endsOfPairs}
 use Rattle.paths.specs.Calls.{segment?}
@@ -17,7 +17,7 @@ use Rattle.paths.proofs.judge_path.Tie as tie
 
 -- once the edition is known to be one
 known : (c : tie.Else2) → Edition (c .before .before .before .before .before .args .edition)
-known c = edition-good (c .before .before .before .before .before .args .edition) (sym (c .before .bad-edition .ensures) ∙ c .if2 .left)
+known c = edition-by-test (c .before .before .before .before .before .args .edition) (sym (c .before .bad-edition .ensures) ∙ c .if2 .left)
 
 returns : tie.Need-returns
 returns c =
@@ -30,7 +30,7 @@ bad-edition-requires c κs = search needs
 returns-2 : tie.Need-returns-2
 returns-2 c =
     let g = c .before .before .before .before .before .args in
-    path-judged-answered (g .w .now) (g .edition) (g .numbers .now) _ (path-bad-edition (g .w .now) (g .edition) (g .numbers .now) (omega arith) (edition-bad (g .edition) (sym (c .before .bad-edition .ensures) ∙ c .if2 .taken)))
+    path-judged-answered (g .w .now) (g .edition) (g .numbers .now) _ (path-bad-edition (g .w .now) (g .edition) (g .numbers .now) (omega arith) (no-edition-by-test (g .edition) (sym (c .before .bad-edition .ensures) ∙ c .if2 .taken)))
 
 returns-3 : tie.Need-returns-3
 returns-3 c =
@@ -41,7 +41,7 @@ turns-requires : tie.Need-turns-requires
 turns-requires c κs = search needs
 
 follow-requires : tie.Need-follow-requires
-follow-requires c κs = (omega arith, omega (arith, c .before .if3 .left), subst Turns (sym (c .turns .ensures)) (turns-range (c .before .before .before .before .before .before .before .args .edition)))
+follow-requires c κs = (omega arith, omega (arith, c .before .if3 .left), turns-given (c .before .before .before .before .before .before .before .args .edition) _ (c .turns .ensures))
 
 returns-4 : tie.Need-returns-4
 returns-4 c =

@@ -1,23 +1,23 @@
 -- `periods::part` meets its contract: each way out is the case of `partOutcome` that its tests lead to, and `part-means` says what that means. Assumes nothing.
 use mathlib.Core.Path.{_≡_, sym, ap, _∙_}
-use Prim.Native.Nat.{ℕ, _-_, _*_, _≤_}
+use Prim.Native.Nat.{ℕ, _-_, _≤_}
 use native.Mathlib.Omega.{arith}
 use native.Mathlib.Nat.{div-le-self, mod-le}
 use borrow.Author.Needs.{needs}
 use lib.ListN.{length}
 use Rattle.answers.specs.Outcome.{accepted}
 use Rattle.periods.specs.Period.{part, SmallestPeriod, smallestPeriod}
-use Rattle.periods.specs.Edition.{Edition, turnsOf}
+use Rattle.periods.specs.Edition.{Edition}
 use Rattle.periods.specs.Part.{description, Within}
 use Rattle.periods.proofs.Claims.{smallest-period-is}
-use Rattle.periods.proofs.Editions.{turns-range, turns-below, edition-good, edition-bad}
+use Rattle.periods.proofs.Editions.{turns-given, turns-below, edition-by-test, no-edition-by-test}
 use Rattle.periods.proofs.PartClaims.{described-by, part-length, part-too-long, part-bad-edition, part-outside, part-described, part-answered}
 use Rattle.periods.proofs.part.Statement.{statement}
 use Rattle.periods.proofs.part.Tie as tie
 
 -- once the edition is known to be one
 known : (c : tie.Else2) → Edition (c .before .before .before .before .args .edition)
-known c = edition-good (c .before .before .before .before .args .edition) (sym (c .before .bad-edition .ensures) ∙ c .if2 .left)
+known c = edition-by-test (c .before .before .before .before .args .edition) (sym (c .before .bad-edition .ensures) ∙ c .if2 .left)
 
 returns : tie.Need-returns
 returns c =
@@ -31,7 +31,7 @@ returns-2 : tie.Need-returns-2
 returns-2 c =
     let g = c .before .before .before .before .args in
     part-answered (g .w .now) (g .edition) (g .first) (g .last) _
-    (part-bad-edition (g .w .now) (g .edition) (g .first) (g .last) (omega arith) (edition-bad (g .edition) (sym (c .before .bad-edition .ensures) ∙ c .if2 .taken)))
+    (part-bad-edition (g .w .now) (g .edition) (g .first) (g .last) (omega arith) (no-edition-by-test (g .edition) (sym (c .before .bad-edition .ensures) ∙ c .if2 .taken)))
 
 returns-3 : tie.Need-returns-3
 returns-3 c =
@@ -103,9 +103,11 @@ cast-t25 c = omega (arith, mod-le (length-of (c .before)) (c .before .smallest-p
 
 mul-t26 : tie.Need-mul-t26
 mul-t26 c =
-    let u = c .before .smallest-period .result in
-    let e : c .turns .result * u ≡ turnsOf (c .before .before .before .before .before .before .before .before .before .before .args .edition) * u = ap (λ (k : ℕ). k * u) (c .turns .ensures) in
-    omega (arith, e, turns-below (turnsOf (c .before .before .before .before .before .before .before .before .before .before .args .edition)) u (turns-range (c .before .before .before .before .before .before .before .before .before .before .args .edition)), unit-bounds (c .before))
+    omega (
+      arith,
+      turns-below (c .turns .result) (c .before .smallest-period .result) (turns-given (c .before .before .before .before .before .before .before .before .before .before .args .edition) _ (c .turns .ensures)),
+      unit-bounds (c .before),
+    )
 
 returns-6 : tie.Need-returns-6
 returns-6 c =

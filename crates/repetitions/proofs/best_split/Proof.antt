@@ -1,21 +1,21 @@
 -- `repetitions::best_split` meets its contract: each way out is the case of the definitions that its tests lead to, and `best-means` says what that means.
 -- Assumes nothing.
-use mathlib.Core.Path.{sym, ap, _∙_, subst}
-use mathlib.Core.Logic.{inl, inr}
+use mathlib.Core.Path.{sym, ap, _∙_}
 use Prim.Native.Nat.{ℕ}
 use native.Mathlib.Omega.{arith}
 use borrow.Author.Needs.{needs}
 use lib.ListN.{length}
-use Rattle.periods.specs.Edition.{Edition, Turns}
-use Rattle.periods.proofs.Editions.{turns-range, edition-good, edition-bad}
+use Rattle.laws.proofs.OneOrTwo.{one-or-two, one-or-two-bounds}
+use Rattle.periods.specs.Edition.{Edition}
+use Rattle.periods.proofs.Editions.{turns-given, edition-by-test, no-edition-by-test}
 use Rattle.repetitions.specs.BestSplit.{sizeOutcome, lastCell, settledEnds, settledWork}
-use Rattle.repetitions.proofs.BestClaims.{promised-long, promised-bad-edition, promised-bad, promised-short, promised-settled, best-answered}
+use Rattle.repetitions.proofs.BestClaims.{promised-long, promised-bad-edition, promised-bad-choice, promised-short, promised-settled, best-answered}
 use Rattle.repetitions.proofs.best_split.Statement.{statement}
 use Rattle.repetitions.proofs.best_split.Tie as tie
 
 -- once the edition is known to be one
 known : (c : tie.Else2) → Edition (c .before .before .before .before .before .before .args .edition)
-known c = edition-good (c .before .before .before .before .before .before .args .edition) (sym (c .before .bad-edition .ensures) ∙ c .if2 .left)
+known c = edition-by-test (c .before .before .before .before .before .before .args .edition) (sym (c .before .bad-edition .ensures) ∙ c .if2 .left)
 
 returns : tie.Need-returns
 returns c =
@@ -29,17 +29,17 @@ returns-2 : tie.Need-returns-2
 returns-2 c =
     let g = c .before .before .before .before .before .before .args in
     best-answered (g .w .now) (g .edition) (g .choice) (g .ends .now) (g .work .now) _ _ _
-    (promised-bad-edition (g .w .now) (g .edition) (g .choice) (g .ends .now) (g .work .now) (omega arith) (edition-bad (g .edition) (sym (c .before .bad-edition .ensures) ∙ c .if2 .taken)))
+    (promised-bad-edition (g .w .now) (g .edition) (g .choice) (g .ends .now) (g .work .now) (omega arith) (no-edition-by-test (g .edition) (sym (c .before .bad-edition .ensures) ∙ c .if2 .taken)))
 
 returns-3 : tie.Need-returns-3
 returns-3 c =
     let g = c .before .before .before .before .before .before .before .args in
-    best-answered (g .w .now) (g .edition) (g .choice) (g .ends .now) (g .work .now) _ _ _ (promised-bad (g .w .now) (g .edition) (g .choice) (g .ends .now) (g .work .now) (omega arith) (known (c .before)) (inl (c .if3 .taken)))
+    best-answered (g .w .now) (g .edition) (g .choice) (g .ends .now) (g .work .now) _ _ _ (promised-bad-choice (g .w .now) (g .edition) (g .choice) (g .ends .now) (g .work .now) (omega arith) (known (c .before)) (λ x. omega (arith, one-or-two-bounds (g .choice) x)))
 
 returns-4 : tie.Need-returns-4
 returns-4 c =
     let g = c .before .before .before .before .before .before .before .before .args in
-    best-answered (g .w .now) (g .edition) (g .choice) (g .ends .now) (g .work .now) _ _ _ (promised-bad (g .w .now) (g .edition) (g .choice) (g .ends .now) (g .work .now) (omega arith) (known (c .before .before)) (inr (c .if4 .taken)))
+    best-answered (g .w .now) (g .edition) (g .choice) (g .ends .now) (g .work .now) _ _ _ (promised-bad-choice (g .w .now) (g .edition) (g .choice) (g .ends .now) (g .work .now) (omega arith) (known (c .before .before)) (λ x. omega (arith, one-or-two-bounds (g .choice) x)))
 
 add-if5 : tie.Need-add-if5
 add-if5 c = search needs
@@ -51,14 +51,14 @@ returns-5 : tie.Need-returns-5
 returns-5 c =
     let g = c .before .before .before .before .before .before .before .before .before .args in
     best-answered (g .w .now) (g .edition) (g .choice) (g .ends .now) (g .work .now) _ _ _
-    (promised-short (g .w .now) (g .edition) (g .choice) (g .ends .now) (g .work .now) (omega arith) (known (c .before .before .before)) (omega arith) (omega arith) (c .if5 .taken))
+    (promised-short (g .w .now) (g .edition) (g .choice) (g .ends .now) (g .work .now) (omega arith) (known (c .before .before .before)) (one-or-two (g .choice) (omega arith) (omega arith)) (c .if5 .taken))
 
 turns-requires : tie.Need-turns-requires
 turns-requires c κs = search needs
 
 settle-requires : tie.Need-settle-requires
 settle-requires c κs =
-    ((omega arith, omega arith), subst Turns (sym (c .before .before .turns .ensures)) (turns-range (c .before .before .before .before .before .before .before .before .before .before .before .before .args .edition)))
+    ((omega arith, omega arith), turns-given (c .before .before .before .before .before .before .before .before .before .before .before .before .args .edition) _ (c .before .before .turns .ensures))
 
 same-length : tie.Need-same-length
 same-length c = search needs
@@ -71,7 +71,7 @@ returns-6 c =
     let g = c .before .before .before .before .before .before .before .before .before .before .before .before .before .before .before .before .before .args in
     let s = c .before .before .before .before .settle .ensures in
     let k = c .before .before .before .before .before .before .before .turns .ensures in
-    let P = promised-settled (g .w .now) (g .edition) (g .choice) (g .ends .now) (g .work .now) (omega arith) (known (c .before .before .before .before .before .before .before .before .before .before .before)) (omega arith) (omega arith) (omega arith) in
+    let P = promised-settled (g .w .now) (g .edition) (g .choice) (g .ends .now) (g .work .now) (omega arith) (known (c .before .before .before .before .before .before .before .before .before .before .before)) (one-or-two (g .choice) (omega arith) (omega arith)) (omega arith) in
     best-answered (g .w .now) (g .edition) (g .choice) (g .ends .now) (g .work .now) _ _ _
     record {
       answer = s .0 ∙ ap (λ (x : ℕ). sizeOutcome (lastCell x (g .w .now) (g .choice)) (length (g .ends .now))) k ∙ P .answer;

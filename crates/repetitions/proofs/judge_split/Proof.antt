@@ -1,5 +1,5 @@
 -- `repetitions::judge_split` meets its contract: its loop keeps that the verdict on the ends that are left is the answer. Assumes nothing.
-use mathlib.Core.Path.{_≡_, refl, sym, ap, _∙_, subst}
+use mathlib.Core.Path.{_≡_, refl, sym, ap, _∙_}
 use mathlib.Core.Bool.{Bool, false}
 use mathlib.Core.List.{List}
 use Prim.Native.Nat.{ℕ, _-_, _*_, _≤_, _<_}
@@ -10,7 +10,7 @@ use lib.Dec.{leb}
 use lib.ListN.{length, getD}
 use Rattle.periods.specs.Period.{anyPeriod}
 use Rattle.periods.specs.Edition.{Edition, Turns}
-use Rattle.periods.proofs.Editions.{turns-range, turns-below, edition-good, edition-bad}
+use Rattle.periods.proofs.Editions.{turns-given, turns-below, edition-by-test, no-edition-by-test}
 use Rattle.periods.proofs.Claims.{part-smallest}
 use Rattle.factors.specs.Verdict.{badEnd?, verdict}
 use Rattle.factors.proofs.Judging.{end-fits, judgedFrom, judged-first, judged-bad-end, judged-no-block, judged-block, judged-unfinished, judged-finished}
@@ -50,7 +50,7 @@ abbrev end : Turn → ℕ
 end c = getD (ends-given c) (c .loop .k) 0
 
 few-turns : (c : Turn) → Turns (turns c)
-few-turns c = subst Turns (sym (c .before .turns .ensures)) (turns-range (edition c))
+few-turns c = turns-given (edition c) _ (c .before .turns .ensures)
 
 -- once the end is in its place: it is above the one before it, and at most n
 abbrev Fits : Type 0
@@ -76,7 +76,7 @@ bad-edition-requires c κs = search needs
 returns-2 : tie.Need-returns-2 Inv-loop μ-loop
 returns-2 c =
     let g = c .before .before .before .before .before .args in
-    split-answered (g .w .now) (g .edition) (g .ends .now) _ (split-bad-edition (g .w .now) (g .edition) (g .ends .now) (omega arith) (edition-bad (g .edition) (sym (c .before .bad-edition .ensures) ∙ c .if2 .taken)))
+    split-answered (g .w .now) (g .edition) (g .ends .now) _ (split-bad-edition (g .w .now) (g .edition) (g .ends .now) (omega arith) (no-edition-by-test (g .edition) (sym (c .before .bad-edition .ensures) ∙ c .if2 .taken)))
 
 turns-requires : tie.Need-turns-requires Inv-loop μ-loop
 turns-requires c κs = search needs
@@ -84,7 +84,7 @@ turns-requires c κs = search needs
 loop-holds : tie.Need-loop-holds Inv-loop μ-loop
 loop-holds c =
     let g = c .before .before .before .before .before .before .args in
-    let known : Edition (g .edition) = edition-good (g .edition) (sym (c .before .before .bad-edition .ensures) ∙ c .before .if2 .left) in (
+    let known : Edition (g .edition) = edition-by-test (g .edition) (sym (c .before .before .bad-edition .ensures) ∙ c .before .if2 .left) in (
       omega arith,
       omega arith,
       omega arith,
