@@ -41,15 +41,18 @@ extern "C" {
 
 /* The version of this header, in numbers and as text; cegridom_version gives the archive's. */
 #define CEGRIDOM_VERSION_MAJOR 0
-#define CEGRIDOM_VERSION_MINOR 3
+#define CEGRIDOM_VERSION_MINOR 4
 #define CEGRIDOM_VERSION (1000 * CEGRIDOM_VERSION_MAJOR + CEGRIDOM_VERSION_MINOR)
-#define CEGRIDOM_VERSION_STRING "0.3"
+#define CEGRIDOM_VERSION_STRING "0.4"
 
 /* The longest word that is taken. */
 #define CEGRIDOM_LIMIT 4096
 /* What the working table holds for a prefix that has no split. */
 #define CEGRIDOM_NONE 4294967295u
 
+/* The places that the table of cegridom_part needs, for the part from first to last: its length, as
+   a size_t, and 0 where first is above last. n places suffice for every part of a word. */
+#define CEGRIDOM_UNIT_PLACES(first, last) ((first) > (last) ? 0 : (size_t)(last) - (first) + 1)
 /* The places that a working table needs, for a word of n symbols. */
 #define CEGRIDOM_WORK_PLACES(n) (4 * ((n) + 1))
 /* The most ends that a split of a word of n symbols has in edition 1; in edition 2 they suffice. */
@@ -148,14 +151,17 @@ uint32_t cegridom_version(void);
 
 /*
  * Part: of the symbols at the positions first to last, the unit, the turns (the length divided by
- * the unit, rounded down), the rest (the remainder), and 1 for a block of the edition or 0. Unit,
- * turns and rest do not depend on the edition.
- * Reads word. Refusals: 1, 12, 6.
- * Time at most the product of the part's length and its unit.
+ * the unit, rounded down), the rest (the remainder), and 1 for a block of the edition or 0. Writes
+ * the unit of every leading part of it but the empty one to units: place i, from 1, is for its
+ * first i symbols, so the last place written holds the unit given. Only the block depends on the
+ * edition.
+ * Reads word; changes the first last - first + 1 places of units. Refusals: 1, 12, 6, 7.
+ * CEGRIDOM_UNIT_PLACES(first, last) places suffice, and n for every part.
+ * Time linear in the part's length.
  */
 uint32_t cegridom_part(const uint8_t *word, size_t n, uint32_t edition, uint32_t first,
-                       uint32_t last, uint32_t *unit, uint32_t *turns, uint32_t *rest,
-                       uint32_t *block, uint32_t *index);
+                       uint32_t last, uint32_t *units, size_t unit_places, uint32_t *unit,
+                       uint32_t *turns, uint32_t *rest, uint32_t *block, uint32_t *index);
 
 /*
  * Runs: writes first, last and unit of each run to table, by first and then by unit, which is the

@@ -52,8 +52,9 @@ fn period_64(n: usize) -> Vec<u8> {
 
 type Family = (&'static str, fn(usize) -> Vec<u8>);
 
-const FAMILIES: [Family; 6] = [
+const FAMILIES: [Family; 7] = [
     ("random, 2 symbols", |n| random(n, 2)),
+    ("random, 256 symbols", |n| random(n, 256)),
     ("all equal", |n| vec![b'a'; n]),
     ("a…ab", last_differs),
     ("Fibonacci", fibonacci),
@@ -171,15 +172,29 @@ static CALLS: [Call; 10] = [
         name: "part",
         on_words: true,
         in_editions: true,
-        library: |input, _| {
+        library: |input, b| {
             let (w, n, edition) = (input.word.as_ptr(), input.word.len(), input.edition);
+            let t = &mut b.table[..n];
             answer(|[unit, turns, rest, block], index| unsafe {
-                raw::cegridom_part(w, n, edition, 1, n as u32, unit, turns, rest, block, index)
+                raw::cegridom_part(
+                    w,
+                    n,
+                    edition,
+                    1,
+                    n as u32,
+                    t.as_mut_ptr(),
+                    t.len(),
+                    unit,
+                    turns,
+                    rest,
+                    block,
+                    index,
+                )
             })
         },
-        twin: |input, _| {
-            let w = &input.word;
-            twin::part(w, input.edition, 1, w.len() as u32).map(|v| v.to_vec())
+        twin: |input, b| {
+            let (w, n) = (&input.word, input.word.len());
+            twin::part(w, input.edition, 1, n as u32, &mut b.table[..n]).map(|v| v.to_vec())
         },
     },
     Call {

@@ -45,7 +45,7 @@ impl Choice {
     }
 }
 
-/// What [`part`] says of a part of a word.
+/// What [`part_into`] says of a part of a word.
 #[derive(Clone, Copy, Debug, PartialEq, Eq, Hash)]
 pub struct Part {
     /// The smallest distance at which no two symbols of the part differ; the length, where they do
@@ -112,28 +112,51 @@ pub fn version() -> (u32, u32) {
     (number / raw::MAJOR, number % raw::MAJOR)
 }
 
-/// The unit, the turns and the rest of the symbols at the positions `first` to `last`, and whether
-/// they are a block. Only the last depends on the edition.
+/// Writes the unit of every leading part, but the empty one, of the symbols at the positions `first`
+/// to `last`, and gives the unit, the turns and the rest of them all, and whether they are a block.
+/// Only the last depends on the edition. Place `i` of the table has the unit of the first `i + 1`
+/// symbols, so the last place written has the unit that is given.
 ///
-/// Refusals: 1, 6. Time at most the product of the part's length and its unit.
+/// Refusals: 1, 6, 7. The table needs `last - first + 1` places. Time linear in the part's length.
 ///
 /// ```
-/// use cegridom::{part, Edition, Refusal};
+/// use cegridom::{part_into, Edition, Refusal};
 ///
-/// let p = part(b"ababa", Edition::One, 1, 5).unwrap();
+/// let mut units = [9; 6];
+/// let p = part_into(b"ababa", Edition::One, 1, 5, &mut units).unwrap();
 /// assert_eq!((p.unit, p.turns, p.rest, p.block), (2, 2, 1, true));
-/// let p = part(b"ababa", Edition::Two, 1, 5).unwrap();
-/// assert_eq!((p.unit, p.turns, p.rest, p.block), (2, 2, 1, false));
-/// assert_eq!(part(b"ababa", Edition::One, 2, 6), Err(Refusal::BadPosition));
+/// assert_eq!(units, [1, 2, 2, 2, 2, 9]);
+///
+/// let short = part_into(b"aabaabaa", Edition::One, 1, 8, &mut units);
+/// assert_eq!(short, Err(Refusal::TooFewPlaces));
+/// assert_eq!(units, [1, 2, 2, 2, 2, 9]);
 /// ```
-pub fn part(word: &[u8], edition: Edition, first: u32, last: u32) -> Result<Part, Refusal> {
+pub fn part_into(
+    word: &[u8],
+    edition: Edition,
+    first: u32,
+    last: u32,
+    units: &mut [u32],
+) -> Result<Part, Refusal> {
     let (n, word) = (word.len(), word.as_ptr());
     let edition = edition.number();
+    let (unit_places, units) = (units.len(), units.as_mut_ptr());
     values(|[unit, turns, rest, block], index| {
         // SAFETY: as said at the head of this file.
         unsafe {
             raw::cegridom_part(
-                word, n, edition, first, last, unit, turns, rest, block, index,
+                word,
+                n,
+                edition,
+                first,
+                last,
+                units,
+                unit_places,
+                unit,
+                turns,
+                rest,
+                block,
+                index,
             )
         }
     })

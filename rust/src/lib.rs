@@ -31,10 +31,10 @@
 //!
 //! # Memory and threads
 //!
-//! [`part`], [`judge_split`], [`judge_path`], [`version`] and the functions named `.._into`, which
-//! write to tables that the caller lends, allocate nothing. The others allocate their answer; they
-//! come with the feature `alloc`, which is on by default. Without it the crate needs `core` alone.
-//! The archive needs the C library's `memset` and nothing else.
+//! [`judge_split`], [`judge_path`], [`version`] and the functions named `.._into`, which write to
+//! tables that the caller lends, allocate nothing. The others allocate their tables; they come with
+//! the feature `alloc`, which is on by default. Without it the crate needs `core` alone. The archive
+//! needs the C library's `memset` and nothing else.
 //!
 //! No call keeps state, so any number of threads may call at once. What the archive takes of the
 //! stack is said in the text of each function, 97 KiB at most; where nothing is said, it is under
@@ -63,11 +63,13 @@ pub mod raw;
 mod refusal;
 
 pub use lent::{
-    best_split_into, judge_path, judge_split, nodes_into, part, path_of_split_into, read_plan_into,
-    runs_into, version, write_plan_into, Choice, Edition, Part, Run, Step,
+    best_split_into, judge_path, judge_split, nodes_into, part_into, path_of_split_into,
+    read_plan_into, runs_into, version, write_plan_into, Choice, Edition, Part, Run, Step,
 };
 #[cfg(feature = "alloc")]
-pub use owned::{best_sizes, best_split, nodes, path_of_split, read_plan, runs, write_plan, Plan};
+pub use owned::{
+    best_sizes, best_split, nodes, part, path_of_split, read_plan, runs, units, write_plan, Plan,
+};
 pub use refusal::Refusal;
 
 /// The longest word that the library takes.

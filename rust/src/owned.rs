@@ -1,8 +1,9 @@
-//! The calls that allocate their answer.
+//! The calls that allocate their tables.
 
 use crate::{
-    best_split_into, most_ends, nodes_into, path_of_split_into, plan_bytes, read_plan_into,
-    runs_into, work_places, write_plan_into, Choice, Edition, Refusal, Run, LIMIT, NONE,
+    best_split_into, most_ends, nodes_into, part_into, path_of_split_into, plan_bytes,
+    read_plan_into, runs_into, work_places, write_plan_into, Choice, Edition, Part, Refusal, Run,
+    LIMIT, NONE,
 };
 use alloc::vec;
 use alloc::vec::Vec;
@@ -30,6 +31,54 @@ fn front<T>(mut table: Vec<T>, count: usize) -> Vec<T> {
     table.truncate(count);
     table.shrink_to_fit();
     table
+}
+
+/// A table for the units of a part, of the part's length. Positions outside the word are refused
+/// whatever is lent: for them it has no more places than the word has symbols.
+fn unit_table(word: &[u8], first: u32, last: u32) -> Vec<u32> {
+    let before = (first as usize).saturating_sub(1);
+    let end = allowed(word.len()).min(last as usize);
+    vec![0; end.saturating_sub(before)]
+}
+
+/// The unit, the turns and the rest of the symbols at the positions `first` to `last`, and whether
+/// they are a block. Only the last depends on the edition.
+///
+/// Refusals: 1, 6. Time linear in the part's length. Allocates a number for each symbol of the part
+/// while it works.
+///
+/// ```
+/// use cegridom::{part, Edition, Refusal};
+///
+/// let p = part(b"ababa", Edition::One, 1, 5).unwrap();
+/// assert_eq!((p.unit, p.turns, p.rest, p.block), (2, 2, 1, true));
+/// let p = part(b"ababa", Edition::Two, 1, 5).unwrap();
+/// assert_eq!((p.unit, p.turns, p.rest, p.block), (2, 2, 1, false));
+/// assert_eq!(part(b"ababa", Edition::One, 2, 6), Err(Refusal::BadPosition));
+/// ```
+pub fn part(word: &[u8], edition: Edition, first: u32, last: u32) -> Result<Part, Refusal> {
+    let mut table = unit_table(word, first, last);
+    part_into(word, edition, first, last, &mut table)
+}
+
+/// The unit of every leading part, but the empty one, of the symbols at the positions `first` to
+/// `last`: how the unit changes as the part grows. That of the first `i` symbols is at place
+/// `i - 1`. Units are the same in both editions.
+///
+/// Refusals: 1, 6. Time linear in the part's length. Allocates its answer.
+///
+/// ```
+/// use cegridom::{units, Refusal};
+///
+/// assert_eq!(units(b"aabaabaa", 1, 8), Ok(vec![1, 1, 3, 3, 3, 3, 3, 3]));
+/// assert_eq!(units(b"ababa", 1, 5), Ok(vec![1, 2, 2, 2, 2]));
+/// assert_eq!(units(b"ababa", 2, 3), Ok(vec![1, 2]));
+/// assert_eq!(units(b"ababa", 2, 6), Err(Refusal::BadPosition));
+/// ```
+pub fn units(word: &[u8], first: u32, last: u32) -> Result<Vec<u32>, Refusal> {
+    let mut table = unit_table(word, first, last);
+    part_into(word, Edition::One, first, last, &mut table)?;
+    Ok(table)
 }
 
 /// The runs of a word, by first and then by unit; run number `i` is at place `i - 1`.

@@ -48,14 +48,16 @@ extern "C" {
     /// the minor one.
     pub fn cegridom_version() -> u32;
 
-    /// Behind [`part`](crate::part). `*block` is 1 for a block, else 0.
-    /// Refusals: 1, 12, 6.
+    /// Behind [`part_into`](crate::part_into). `*block` is 1 for a block, else 0.
+    /// Refusals: 1, 12, 6, 7.
     pub fn cegridom_part(
         word: *const u8,
         n: usize,
         edition: u32,
         first: u32,
         last: u32,
+        units: *mut u32,
+        unit_places: usize,
         unit: *mut u32,
         turns: *mut u32,
         rest: *mut u32,

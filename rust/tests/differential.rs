@@ -120,9 +120,11 @@ impl Checker {
         }] += 1;
     }
 
-    fn part(&mut self, w: &[u8], edition: u32, first: u32, last: u32) {
+    fn part(&mut self, w: &[u8], edition: u32, first: u32, last: u32, places: usize) {
+        let mut lent = Lent::new(places);
         let mut values = [GUARD; 4];
         let mut index = GUARD;
+        let units = lent.table();
         let [unit, turns, rest, block] = &mut values;
         let result = unsafe {
             raw::cegridom_part(
@@ -131,6 +133,8 @@ impl Checker {
                 edition,
                 first,
                 last,
+                units.as_mut_ptr(),
+                units.len(),
                 unit,
                 turns,
                 rest,
@@ -138,8 +142,9 @@ impl Checker {
                 &mut index,
             )
         };
-        let expected = reference::part_call(w, edition, first, last);
+        let (expected, front) = reference::part_call(w, edition, first, last, places);
         compare(result, index, &values, &expected, "part");
+        lent.changed_to(&front, "part");
         self.count(&expected);
     }
 
@@ -329,6 +334,15 @@ impl Checker {
 
     // ---- one call with every size of table
 
+    fn part_sizes(&mut self, w: &[u8], edition: u32, first: u32, last: u32) {
+        let n = w.len();
+        let length = (last as usize + 1).saturating_sub(first as usize);
+        // A part longer than the word is refused, whatever is lent.
+        for places in around_in(edition, length.min(n + 1), n) {
+            self.part(w, edition, first, last, places);
+        }
+    }
+
     fn runs_sizes(&mut self, known: &Known) {
         for places in around(3 * known.runs.len(), known.word.len()) {
             self.runs(known, places);
@@ -492,9 +506,12 @@ fn reference_follows_the_definitions() {
     every_short_word(|w| {
         let n = w.len();
         for first in 0..n {
+            let units = reference::units(&w[first..]);
             for end in first + 1..=n {
                 let part = &w[first..end];
-                assert_eq!(reference::unit(part), reference::plain_unit(part));
+                let unit = reference::plain_unit(part);
+                assert_eq!(reference::unit(part), unit);
+                assert_eq!(units[end - first - 1], unit as u32);
                 made += 1;
             }
         }
@@ -537,18 +554,19 @@ fn short_words_part_runs_nodes() {
         for edition in EDITIONS {
             for first in 0..=n + 1 {
                 for last in 0..=n + 1 {
-                    checker.part(w, edition, first, last);
+                    checker.part_sizes(w, edition, first, last);
                 }
             }
-            checker.part(w, edition, 1, u32::MAX);
-            checker.part(w, edition, u32::MAX, 1);
+            checker.part_sizes(w, edition, 1, u32::MAX);
+            checker.part_sizes(w, edition, u32::MAX, 1);
             for position in (0..=n + 1).chain([u32::MAX]) {
                 checker.nodes_sizes(&known, edition, position);
             }
         }
         for edition in NO_EDITIONS {
             for (first, last) in [(1, n), (0, n), (n, 1)] {
-                checker.part(w, edition, first, last);
+                checker.part(w, edition, first, last, 0);
+                checker.part(w, edition, first, last, w.len());
             }
             for position in [0, 1, n, n + 1] {
                 checker.nodes(&known, edition, position, 0);
@@ -714,13 +732,13 @@ fn long_word(checker: &mut Checker, numbers: &mut Numbers, w: &[u8]) {
         let first = 1 + numbers.below(n);
         let last = first + numbers.below(n + 1 - first);
         for edition in EDITIONS {
-            checker.part(w, edition, first as u32, last as u32);
+            checker.part_sizes(w, edition, first as u32, last as u32);
         }
     }
     checker.runs_sizes(&known);
     for edition in EDITIONS {
-        checker.part(w, edition, 1, n as u32);
-        checker.part(w, edition, 2, n as u32 + 1);
+        checker.part_sizes(w, edition, 1, n as u32);
+        checker.part_sizes(w, edition, 2, n as u32 + 1);
         let positions: &[usize] = if n < LONG {
             &[0, 1, n / 3, n - 1, n, n + 1]
         } else {
@@ -740,7 +758,7 @@ fn long_word(checker: &mut Checker, numbers: &mut Numbers, w: &[u8]) {
         checker.judge_split(w, edition, &ends);
     }
     for edition in NO_EDITIONS {
-        checker.part(w, edition, 1, n as u32);
+        checker.part(w, edition, 1, n as u32, n);
         checker.nodes(&known, edition, n as u32, n);
         checker.best_split(&known, edition, 1, n, 4 * (n + 1));
         checker.judge_split(w, edition, &ends);
@@ -796,10 +814,10 @@ fn words_over_the_limit() {
                 checker.runs(&known, places);
             }
             for edition in [0, 1, 2, 3] {
-                for (first, last) in [(1, all), (0, all), (2, 1)] {
-                    checker.part(&w, edition, first, last);
-                }
                 for places in [0, n] {
+                    for (first, last) in [(1, all), (0, all), (2, 1)] {
+                        checker.part(&w, edition, first, last, places);
+                    }
                     for position in [0, 1, all, all + 1] {
                         checker.nodes(&known, edition, position, places);
                     }
@@ -906,13 +924,24 @@ fn every_refusal_in_its_order() {
         make(checker);
         assert_eq!(checker.met[number], before + 1, "refusal {number}");
     };
-    // part: 1, 12, 6
-    expect(&mut checker, 1, &|c| c.part(&long, 0, 0, 0));
-    expect(&mut checker, 12, &|c| c.part(word, 0, 0, 0));
-    expect(&mut checker, 12, &|c| c.part(word, 3, 1, 8));
-    for (first, last) in [(0, 8), (1, 9), (5, 4), (0, 0), (9, 9)] {
-        for edition in EDITIONS {
-            expect(&mut checker, 6, &|c| c.part(word, edition, first, last));
+    // part: 1, 12, 6, 7
+    expect(&mut checker, 1, &|c| c.part(&long, 0, 0, 0, 0));
+    expect(&mut checker, 1, &|c| c.part(&long, 1, 1, 8, 0));
+    expect(&mut checker, 12, &|c| c.part(word, 0, 0, 0, 0));
+    expect(&mut checker, 12, &|c| c.part(word, 3, 1, 8, 0));
+    expect(&mut checker, 12, &|c| c.part(word, 3, 1, 8, 8));
+    for edition in EDITIONS {
+        for (first, last) in [(0, 8), (1, 9), (5, 4), (0, 0), (9, 9), (1, u32::MAX)] {
+            expect(&mut checker, 6, &|c| c.part(word, edition, first, last, 0));
+            expect(&mut checker, 6, &|c| c.part(word, edition, first, last, 9));
+        }
+        for (first, last, exact) in [(1, 8, 8), (3, 8, 6), (8, 8, 1)] {
+            expect(&mut checker, 7, &|c| {
+                c.part(word, edition, first, last, exact - 1)
+            });
+            expect(&mut checker, 0, &|c| {
+                c.part(word, edition, first, last, exact)
+            });
         }
     }
     // runs: 1, 7
@@ -1049,6 +1078,15 @@ fn table<T: Copy>(front: &[T], places: usize, before: T) -> Vec<T> {
     table
 }
 
+fn as_part(values: &[u32]) -> cegridom::Part {
+    cegridom::Part {
+        unit: values[0],
+        turns: values[1],
+        rest: values[2],
+        block: values[3] == 1,
+    }
+}
+
 fn as_runs(flat: &[u32]) -> Vec<cegridom::Run> {
     flat.chunks_exact(raw::RUN_PLACES)
         .map(|r| cegridom::Run {
@@ -1076,14 +1114,19 @@ impl Wrappers {
     }
 
     fn part(&mut self, w: &[u8], edition: Edition, first: u32, last: u32) {
-        let outcome = reference::part_call(w, edition.number(), first, last);
-        let expected = said(outcome, |v| cegridom::Part {
-            unit: v[0],
-            turns: v[1],
-            rest: v[2],
-            block: v[3] == 1,
-        });
-        self.agree(cegridom::part(w, edition, first, last), expected);
+        let call = |places| reference::part_call(w, edition.number(), first, last, places);
+        let (outcome, units) = call(MANY);
+        let got = cegridom::part(w, edition, first, last);
+        self.agree(got, said(outcome.clone(), as_part));
+        let got = cegridom::units(w, first, last);
+        self.agree(got, said(outcome, |_| units.clone()));
+        for places in around(units.len(), w.len()) {
+            let mut lent = vec![GUARD; places];
+            let (outcome, front) = call(places);
+            let got = cegridom::part_into(w, edition, first, last, &mut lent);
+            self.agree(got, said(outcome, as_part));
+            assert_eq!(lent, table(&front, places, GUARD));
+        }
     }
 
     fn runs(&mut self, known: &Known) {
@@ -1214,7 +1257,9 @@ fn wrappers() {
         let n = w.len() as u32;
         wrappers.runs(&known);
         for edition in [Edition::One, Edition::Two] {
-            for (first, last) in [(1, n), (2, n), (0, n), (n, n), (1, n / 2)] {
+            let inside = [(1, n), (2, n), (n, n), (1, n / 2), (n / 3 + 1, n / 2)];
+            let outside = [(0, n), (2, n + 1), (n, 1), (1, u32::MAX), (u32::MAX, 1)];
+            for (first, last) in inside.into_iter().chain(outside) {
                 wrappers.part(w, edition, first, last);
             }
             for position in [0, 1, n / 2, n, n + 1] {

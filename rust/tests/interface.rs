@@ -1,7 +1,9 @@
-//! What the types of the crate promise: refusals and their numbers, lengths that do not fit, and
-//! the example `fewest`.
+//! What the types of the crate promise: refusals and their numbers, lengths that do not fit, what
+//! the units of a part take of memory, and the example `fewest`.
 
 use cegridom::{Choice, Edition, Refusal, LIMIT};
+use std::alloc::{GlobalAlloc, Layout, System};
+use std::cell::Cell;
 use std::error::Error;
 use std::io::{self, Read};
 
@@ -98,6 +100,86 @@ fn the_archive_has_the_version_of_the_crate() {
     let number = |text: &str| text.parse::<u32>().unwrap();
     assert_eq!(major, number(env!("CARGO_PKG_VERSION_MAJOR")));
     assert_eq!(minor, number(env!("CARGO_PKG_VERSION_MINOR")));
+}
+
+// ---- memory
+
+thread_local! {
+    /// The bytes that this thread has allocated.
+    static ALLOCATED: Cell<usize> = const { Cell::new(0) };
+}
+
+/// The system's allocator, counting.
+struct Counting;
+
+// SAFETY: every request goes to the system's allocator as it is; counting allocates nothing.
+unsafe impl GlobalAlloc for Counting {
+    unsafe fn alloc(&self, layout: Layout) -> *mut u8 {
+        ALLOCATED.set(ALLOCATED.get().saturating_add(layout.size()));
+        unsafe { System.alloc(layout) }
+    }
+
+    unsafe fn dealloc(&self, place: *mut u8, layout: Layout) {
+        unsafe { System.dealloc(place, layout) }
+    }
+}
+
+#[global_allocator]
+static COUNTING: Counting = Counting;
+
+/// How many numbers of 32 bits a call allocated, and what it answered.
+fn numbers_allocated<T>(call: impl FnOnce() -> T) -> (usize, T) {
+    let before = ALLOCATED.get();
+    let answer = call();
+    let bytes = ALLOCATED.get() - before;
+    (bytes.div_ceil(size_of::<u32>()), answer)
+}
+
+/// What the functions on a part allocate, and their refusals.
+fn part_allocations(word: &[u8], first: u32, last: u32) -> ([usize; 3], [Option<Refusal>; 3]) {
+    let mut lent = [0; LIMIT];
+    let (part, a) = numbers_allocated(|| cegridom::part(word, Edition::Two, first, last));
+    let (units, b) = numbers_allocated(|| cegridom::units(word, first, last));
+    let (into, c) =
+        numbers_allocated(|| cegridom::part_into(word, Edition::Two, first, last, &mut lent));
+    ([part, units, into], [a.err(), b.err(), c.err()])
+}
+
+#[test]
+fn a_part_allocates_a_number_a_symbol() {
+    for (first, last, length) in [(1, 8, 8), (3, 7, 5), (8, 8, 1)] {
+        let said = part_allocations(b"aabaabaa", first, last);
+        assert_eq!(said, ([length, length, 0], [None; 3]));
+    }
+    let longest = [b'a'; LIMIT];
+    let said = part_allocations(&longest, 1, LIMIT as u32);
+    assert_eq!(said, ([LIMIT, LIMIT, 0], [None; 3]));
+}
+
+#[test]
+fn a_refused_part_allocates_no_more_than_the_word() {
+    let outside = [
+        (0, 8),
+        (1, 9),
+        (5, 4),
+        (9, 9),
+        (1, u32::MAX),
+        (u32::MAX, 1),
+        (0, u32::MAX),
+    ];
+    for (first, last) in outside {
+        let (allocated, refusals) = part_allocations(b"aabaabaa", first, last);
+        assert!(
+            allocated.iter().all(|&numbers| numbers <= 8),
+            "{allocated:?}"
+        );
+        assert_eq!(refusals, [Some(Refusal::BadPosition); 3]);
+    }
+    let too_long = [b'a'; LIMIT + 1];
+    for (first, last) in [(1, LIMIT as u32), (1, LIMIT as u32 + 1), (1, u32::MAX)] {
+        let said = part_allocations(&too_long, first, last);
+        assert_eq!(said, ([0; 3], [Some(Refusal::TooLong); 3]));
+    }
 }
 
 // ---- the example

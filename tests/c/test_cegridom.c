@@ -33,6 +33,8 @@ static uint32_t work[CEGRIDOM_WORK_PLACES(CEGRIDOM_LIMIT) + 1];
 static uint8_t longest[CEGRIDOM_LIMIT + 1];
 static uint8_t out[CEGRIDOM_PLAN_BYTES(CEGRIDOM_LIMIT) + 1];
 
+#define TABLE_PLACES (sizeof table / sizeof *table)
+
 static void fill(uint32_t *places, size_t count) {
     for (size_t i = 0; i < count; i++) {
         places[i] = GUARD;
@@ -100,65 +102,121 @@ static void test_message(void) {
 /* Whether a part is a block in each edition; what else is said of it does not depend on that. */
 struct part_case {
     const char *word;
-    uint32_t n, first, last, unit, turns, rest, block[2];
+    uint32_t n, first, last, unit, turns, rest, block[2], units[9];
 };
 
 static const struct part_case part_cases[] = {
-    {"ababa", 5, 1, 5, 2, 2, 1, {1, 0}},
-    {"ababab", 6, 1, 6, 2, 3, 0, {1, 1}},
-    {"ababab", 6, 2, 6, 2, 2, 1, {1, 0}},
-    {"aabaabaa", 8, 2, 4, 2, 1, 1, {0, 0}},
-    {"aabaabaa", 8, 1, 8, 3, 2, 2, {1, 0}},
-    {"aabaabaab", 9, 1, 9, 3, 3, 0, {1, 1}},
-    {"a", 1, 1, 1, 1, 1, 0, {0, 0}},
-    {"aaa", 3, 1, 2, 1, 2, 0, {1, 0}},
-    {"aaa", 3, 1, 3, 1, 3, 0, {1, 1}},
-    {"a\0\377a\0\377", 6, 1, 6, 3, 2, 0, {1, 0}},
+    {"ababa", 5, 1, 5, 2, 2, 1, {1, 0}, {1, 2, 2, 2, 2}},
+    {"ababab", 6, 1, 6, 2, 3, 0, {1, 1}, {1, 2, 2, 2, 2, 2}},
+    {"ababab", 6, 2, 6, 2, 2, 1, {1, 0}, {1, 2, 2, 2, 2}},
+    {"aabaabaa", 8, 2, 4, 2, 1, 1, {0, 0}, {1, 2, 2}},
+    {"aabaabaa", 8, 1, 8, 3, 2, 2, {1, 0}, {1, 1, 3, 3, 3, 3, 3, 3}},
+    {"aabaabaab", 9, 1, 9, 3, 3, 0, {1, 1}, {1, 1, 3, 3, 3, 3, 3, 3, 3}},
+    {"aabaaaba", 8, 1, 8, 4, 2, 0, {1, 0}, {1, 1, 3, 3, 3, 4, 4, 4}},
+    {"baabaacb", 8, 2, 7, 6, 1, 0, {0, 0}, {1, 1, 3, 3, 3, 6}},
+    {"a", 1, 1, 1, 1, 1, 0, {0, 0}, {1}},
+    {"aaa", 3, 1, 2, 1, 2, 0, {1, 0}, {1, 1}},
+    {"aaa", 3, 1, 3, 1, 3, 0, {1, 1}, {1, 1, 1}},
+    {"a\0\377a\0\377", 6, 1, 6, 3, 2, 0, {1, 0}, {1, 2, 3, 3, 3, 3}},
 };
 
+/* What the part call is lent of the table, so that a place before it is watched too. */
+static uint32_t *const units = table + 1;
+
+static void part_accepted(const struct part_case *k, uint32_t edition, size_t places) {
+    size_t length = CEGRIDOM_UNIT_PLACES(k->first, k->last);
+    fill(table, TABLE_PLACES);
+    reset();
+    CHECK(cegridom_part((const uint8_t *)k->word, k->n, edition, k->first, k->last, units, places,
+                        &a, &b, &c, &d, &index_) == CEGRIDOM_ACCEPTED);
+    CHECK(a == k->unit && b == k->turns && c == k->rest && d == k->block[edition - 1] &&
+          index_ == 0);
+    CHECK(memcmp(units, k->units, length * sizeof *units) == 0 && units[length - 1] == a);
+    CHECK(table[0] == GUARD && untouched(units + length, TABLE_PLACES - 1 - length));
+}
+
+static void part_refused(const uint8_t *word, size_t n, uint32_t edition, uint32_t first,
+                         uint32_t last, uint32_t *lent, size_t places, uint32_t result) {
+    fill(table, TABLE_PLACES);
+    reset();
+    CHECK(cegridom_part(word, n, edition, first, last, lent, places, &a, &b, &c, &d, &index_) ==
+          result);
+    CHECK(a == 0 && b == 0 && c == 0 && d == 0 && index_ == 0 && untouched(table, TABLE_PLACES));
+}
+
+/* A refusal that comes before 7, so whatever is lent. */
+static void part_refused_first(const uint8_t *word, size_t n, uint32_t edition, uint32_t first,
+                               uint32_t last, uint32_t result) {
+    part_refused(word, n, edition, first, last, NULL, 0, result);
+    part_refused(word, n, edition, first, last, units, 0, result);
+    part_refused(word, n, edition, first, last, units, n + 1, result);
+}
+
+/* A part in a table with just the places that it needs, with more, and with fewer. */
+static void parted(const struct part_case *k, uint32_t edition) {
+    const uint8_t *word = (const uint8_t *)k->word;
+    size_t length = CEGRIDOM_UNIT_PLACES(k->first, k->last);
+    part_accepted(k, edition, length);
+    part_accepted(k, edition, length + 1);
+    part_accepted(k, edition, TABLE_PLACES - 2);
+    part_refused(word, k->n, edition, k->first, k->last, units, length - 1,
+                 CEGRIDOM_TOO_FEW_PLACES);
+    part_refused(word, k->n, edition, k->first, k->last, NULL, 0, CEGRIDOM_TOO_FEW_PLACES);
+}
+
 static void test_part(void) {
-    for (size_t i = 0; i < sizeof part_cases / sizeof *part_cases; i++) {
-        const struct part_case *k = &part_cases[i];
-        const uint8_t *word = (const uint8_t *)k->word;
-        for (uint32_t edition = 1; edition <= 2; edition++) {
-            reset();
-            CHECK(cegridom_part(word, k->n, edition, k->first, k->last, &a, &b, &c, &d, &index_) ==
-                  CEGRIDOM_ACCEPTED);
-            CHECK(a == k->unit && b == k->turns && c == k->rest && d == k->block[edition - 1] &&
-                  index_ == 0);
+    for (uint32_t edition = 1; edition <= 2; edition++) {
+        for (size_t i = 0; i < sizeof part_cases / sizeof *part_cases; i++) {
+            parted(&part_cases[i], edition);
         }
     }
-    static const uint32_t outside[][2] = {{0, 1}, {1, 6}, {3, 2}, {0, 0}, {6, 6}};
+    static const uint32_t outside[][2] = {{0, 1}, {1, 6}, {3, 2}, {0, 0}, {6, 6}, {1, 4294967295u}};
     for (size_t i = 0; i < sizeof outside / sizeof *outside; i++) {
         uint32_t first = outside[i][0], last = outside[i][1];
         for (uint32_t edition = 1; edition <= 2; edition++) {
-            reset();
-            CHECK(cegridom_part(WORD("ababa"), edition, first, last, &a, &b, &c, &d, &index_) ==
-                  CEGRIDOM_BAD_POSITION);
-            CHECK(a == 0 && b == 0 && c == 0 && d == 0 && index_ == 0);
+            part_refused_first(WORD("ababa"), edition, first, last, CEGRIDOM_BAD_POSITION);
         }
         /* 12 comes before 6 */
-        reset();
-        CHECK(cegridom_part(WORD("ababa"), 3, first, last, &a, &b, &c, &d, &index_) ==
-              CEGRIDOM_BAD_EDITION);
-        CHECK(a == 0 && b == 0 && c == 0 && d == 0 && index_ == 0);
+        part_refused_first(WORD("ababa"), 3, first, last, CEGRIDOM_BAD_EDITION);
     }
     for (size_t i = 0; i < NO_EDITIONS; i++) {
-        reset();
-        CHECK(cegridom_part(WORD("ababa"), no_editions[i], 1, 5, &a, &b, &c, &d, &index_) ==
-              CEGRIDOM_BAD_EDITION);
-        CHECK(a == 0 && b == 0 && c == 0 && d == 0 && index_ == 0);
+        part_refused_first(WORD("ababa"), no_editions[i], 1, 5, CEGRIDOM_BAD_EDITION);
     }
-    reset();
-    CHECK(cegridom_part(NULL, 0, CEGRIDOM_EDITION_1, 1, 1, &a, &b, &c, &d, &index_) ==
-          CEGRIDOM_BAD_POSITION);
-    CHECK(a == 0 && b == 0 && c == 0 && d == 0 && index_ == 0);
+    part_refused_first(NULL, 0, CEGRIDOM_EDITION_1, 1, 1, CEGRIDOM_BAD_POSITION);
     for (uint32_t edition = 0; edition <= 3; edition++) {
-        reset();
-        CHECK(cegridom_part(longest, CEGRIDOM_LIMIT + 1, edition, 0, 0, &a, &b, &c, &d, &index_) ==
-              CEGRIDOM_TOO_LONG);
-        CHECK(a == 0 && b == 0 && c == 0 && d == 0 && index_ == 0);
+        /* 1 comes before 12 and 6 */
+        part_refused_first(longest, CEGRIDOM_LIMIT + 1, edition, 0, 0, CEGRIDOM_TOO_LONG);
+        part_refused_first(longest, CEGRIDOM_LIMIT + 1, edition, 1, 2, CEGRIDOM_TOO_LONG);
     }
+}
+
+/* The longest word has a place for each of its symbols, all of them 1. */
+static void test_longest_part(void) {
+    fill(table, TABLE_PLACES);
+    reset();
+    CHECK(cegridom_part(longest, CEGRIDOM_LIMIT, 1, 1, CEGRIDOM_LIMIT, units, CEGRIDOM_LIMIT, &a,
+                        &b, &c, &d, &index_) == CEGRIDOM_ACCEPTED);
+    CHECK(a == 1 && b == CEGRIDOM_LIMIT && c == 0 && d == 1 && index_ == 0);
+    int ones = 1;
+    for (size_t i = 0; i < CEGRIDOM_LIMIT; i++) {
+        ones &= units[i] == 1;
+    }
+    CHECK(ones && table[0] == GUARD && units[CEGRIDOM_LIMIT] == GUARD);
+    part_refused(longest, CEGRIDOM_LIMIT, 1, 1, CEGRIDOM_LIMIT, units, CEGRIDOM_LIMIT - 1,
+                 CEGRIDOM_TOO_FEW_PLACES);
+}
+
+static void test_unit_places(void) {
+    /* an array's size, and operands that bind less than the macro's own operators */
+    static uint32_t places[CEGRIDOM_UNIT_PLACES(1, CEGRIDOM_LIMIT)];
+    CHECK(sizeof places == CEGRIDOM_LIMIT * sizeof *places);
+    CHECK(CEGRIDOM_UNIT_PLACES(1, 1) == 1 && CEGRIDOM_UNIT_PLACES(3, 8) == 6);
+    CHECK(2 * CEGRIDOM_UNIT_PLACES(1 | 2, 4 | 8) == 20);
+    /* positions that are refused: nothing wraps around */
+    const uint32_t least = 0, five = 5, most = 4294967295u;
+    CHECK(CEGRIDOM_UNIT_PLACES(2, 1) == 0 && CEGRIDOM_UNIT_PLACES(five + 1, five) == 0);
+    CHECK(CEGRIDOM_UNIT_PLACES(most, least) == 0);
+    CHECK(CEGRIDOM_UNIT_PLACES(least, most) == (size_t)most + 1);
 }
 
 static void test_runs(void) {
@@ -668,7 +726,9 @@ int main(void) {
     memset(longest, 'a', sizeof longest);
     test_version();
     test_message();
+    test_unit_places();
     test_part();
+    test_longest_part();
     test_runs();
     test_nodes();
     test_best_split();

@@ -138,17 +138,22 @@ def verdict(n, ends, fits):
 # ---- the calls, each with its refusals in the document's order
 
 
-def part(word, edition, first, last):
-    """Part: 1, 12, 6. Gives unit, turns, rest, and 1 for a block or 0."""
+def part(word, edition, first, last, table):
+    """Part: 1, 12, 6, 7. Gives unit, turns, rest, and 1 for a block or 0; writes the unit of each leading
+    part but the empty one."""
     if len(word) > LIMIT:
-        return refused(1)
+        return refused(1), table
     if edition not in TURNS:
-        return refused(12)
+        return refused(12), table
     if first < 1 or last > len(word) or first > last:
-        return refused(6)
+        return refused(6), table
     piece = word[first - 1 : last]
-    p = unit(piece)
-    return accepted(p, len(piece) // p, len(piece) % p, int(is_block(piece, TURNS[edition])))
+    if len(table) < len(piece):
+        return refused(7), table
+    units = [unit(piece[:m]) for m in range(1, len(piece) + 1)]
+    p = units[-1]
+    outcome = accepted(p, len(piece) // p, len(piece) % p, int(is_block(piece, TURNS[edition])))
+    return outcome, written(units, table)
 
 
 def runs(word, table):
@@ -417,7 +422,8 @@ def compare_with_examples(edition):
 def compare_with_document():
     for ends, outcome in JUDGED:
         expect(judge_split(b"aabaabaa", 1, ends) == outcome, "judged", ends)
-    expect(part(b"ababa", 1, 1, 5) == accepted(2, 2, 1, 1), "part of ababa")
+    ababa = accepted(2, 2, 1, 1), [1, 2, 2, 2, 2, 7]
+    expect(part(b"ababa", 1, 1, 5, [7] * 6) == ababa, "part of ababa")
     expect(runs_of(b"aabaabaa") == [(1, 2, 1), (1, 8, 3), (4, 5, 1), (7, 8, 1)], "runs of aabaabaa")
 
 

@@ -10,11 +10,11 @@ use Rattle.cegridom.specs.Export.{resultOf, indexOf, valueOf, version}
 use Rattle.periods.proofs.Words.{word-aabaabaa, word-ababa}
 
 -- "ababa * | 5 (unit 2, turns 2, rest 1)": accepted, with four values
-pub part-result : resultOf (partOutcome word-ababa 1 1 5) ∷ indexOf (partOutcome word-ababa 1 1 5) ∷ [] ≡ 0 ∷ 0 ∷ []
+pub part-result : resultOf (partOutcome word-ababa 1 1 5 5) ∷ indexOf (partOutcome word-ababa 1 1 5 5) ∷ [] ≡ 0 ∷ 0 ∷ []
 unfolding partOutcome description repetition? smallestPeriod badEdition? turnsOf
 part-result = refl
 
-pub part-values : valueOf 0 (partOutcome word-ababa 1 1 5) ∷ valueOf 1 (partOutcome word-ababa 1 1 5) ∷ valueOf 2 (partOutcome word-ababa 1 1 5) ∷ valueOf 3 (partOutcome word-ababa 1 1 5) ∷ [] ≡ 2 ∷ 2 ∷ 1 ∷ 1 ∷ []
+pub part-values : valueOf 0 (partOutcome word-ababa 1 1 5 5) ∷ valueOf 1 (partOutcome word-ababa 1 1 5 5) ∷ valueOf 2 (partOutcome word-ababa 1 1 5 5) ∷ valueOf 3 (partOutcome word-ababa 1 1 5 5) ∷ [] ≡ 2 ∷ 2 ∷ 1 ∷ 1 ∷ []
 unfolding partOutcome description repetition? smallestPeriod badEdition? turnsOf
 part-values = refl
 
@@ -24,10 +24,15 @@ unfolding splitOutcome verdict repetition? smallestPeriod badEdition? turnsOf
 judged-2-2-8 = refl
 
 -- "12, an edition other than 1 or 2": no value, no index
-pub edition-3-result : resultOf (partOutcome word-ababa 3 1 5) ∷ indexOf (partOutcome word-ababa 3 1 5) ∷ valueOf 0 (partOutcome word-ababa 3 1 5) ∷ [] ≡ 12 ∷ 0 ∷ 0 ∷ []
+pub edition-3-result : resultOf (partOutcome word-ababa 3 1 5 5) ∷ indexOf (partOutcome word-ababa 3 1 5 5) ∷ valueOf 0 (partOutcome word-ababa 3 1 5 5) ∷ [] ≡ 12 ∷ 0 ∷ 0 ∷ []
 unfolding partOutcome badEdition?
 edition-3-result = refl
 
--- 0.3
-pub version-is-0-3 : version ≡ 3
-version-is-0-3 = refl
+-- "7 can now come from the part call, after 6": no value, no index
+pub part-a-place-short : resultOf (partOutcome word-ababa 1 1 5 4) ∷ indexOf (partOutcome word-ababa 1 1 5 4) ∷ valueOf 0 (partOutcome word-ababa 1 1 5 4) ∷ [] ≡ 7 ∷ 0 ∷ 0 ∷ []
+unfolding partOutcome badEdition?
+part-a-place-short = refl
+
+-- 0.4
+pub version-is-0-4 : version ≡ 4
+version-is-0-4 = refl

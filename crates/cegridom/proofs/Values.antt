@@ -20,11 +20,12 @@ use Rattle.cegridom.proofs.Claims.{HasValues}
 known : (k : ℕ) (o x : Outcome) → o ≡ x → HasValues k x → HasValues k o
 known k o x e h = subst (HasValues k) (sym e) h
 
-pub part-values : (w : List ℕ) (edition first last : ℕ) (o : Outcome) → PartMeaning w edition first last o → HasValues 4 o
-part-values w edition first last o (PartMeaning.too-long a e) = known 4 o (refused 1 0) e (lit≤ tt)
-part-values w edition first last o (PartMeaning.bad-edition a i e) = known 4 o (refused 12 0) e (lit≤ tt)
-part-values w edition first last o (PartMeaning.outside a i b e) = known 4 o (refused 6 0) e (lit≤ tt)
-part-values w edition first last o (PartMeaning.described a i b u t r f d e) = known 4 o _ e refl
+pub part-values : (w : List ℕ) (edition first last : ℕ) (t : List ℕ) (o : Outcome) (x : List ℕ) → PartMeaning w edition first last t o x → HasValues 4 o
+part-values w edition first last t o x (PartMeaning.too-long a e k) = known 4 o (refused 1 0) e (lit≤ tt)
+part-values w edition first last t o x (PartMeaning.bad-edition a i e k) = known 4 o (refused 12 0) e (lit≤ tt)
+part-values w edition first last t o x (PartMeaning.outside a i b e k) = known 4 o (refused 6 0) e (lit≤ tt)
+part-values w edition first last t o x (PartMeaning.too-few a i b l e k) = known 4 o (refused 7 0) e (lit≤ tt)
+part-values w edition first last t o x (PartMeaning.described a i b l u q r f d e g) = known 4 o _ e refl
 
 pub runs-values : (w t : List ℕ) (o : Outcome) (u : List ℕ) → RunsMeaning w t o u → HasValues 1 o
 runs-values w t o u (RunsMeaning.too-long a e k) = known 1 o (refused 1 0) e (lit≤ tt)

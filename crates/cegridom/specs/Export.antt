@@ -3,6 +3,7 @@ use Prim.Native.Nat.{ℕ}
 use mathlib.Core.List.{List}
 use lib.ListN.{length, getD}
 use Rattle.answers.specs.Outcome.{Outcome, accepted, refused}
+use Rattle.periods.specs.Part.{partOutcome, PartMeaning}
 use Rattle.repetitions.specs.BestSplit.{bestOutcome, BestMeaning}
 use Rattle.paths.specs.Calls.{pathOutcome, PathMeaning}
 
@@ -21,13 +22,16 @@ abbrev pub valueOf : ℕ → Outcome → ℕ
 valueOf k (accepted v) = getD v k 0
 valueOf k (refused n i) = 0
 
--- the meanings of best split and of path of a split, of the outcome that is handed over
+-- the meanings of the part call, of best split and of path of a split, of the outcome that is handed over
+abbrev pub PartHanded : List ℕ → ℕ → ℕ → ℕ → List ℕ → List ℕ → Type 0
+PartHanded w edition first last t x = PartMeaning w edition first last t (partOutcome w edition first last (length t)) x
+
 abbrev pub BestHanded : List ℕ → ℕ → ℕ → List ℕ → List ℕ → List ℕ → List ℕ → Type 0
 BestHanded w edition choice e t x y = BestMeaning w edition choice e t (bestOutcome w edition choice e t) x y
 
 abbrev pub PathHanded : List ℕ → ℕ → List ℕ → List ℕ → List ℕ → Type 0
 PathHanded w edition ends t u = PathMeaning w edition ends t (pathOutcome w edition ends (length t)) u
 
--- 1,000 × the major number + the minor one, of version 0.3
+-- 1,000 × the major number + the minor one, of version 0.4
 abbrev pub version : ℕ
-version = 3
+version = 4

@@ -7,20 +7,20 @@
 ghost use mathlib.Core.Path.{_≡_};
 ghost use lib.ListN.{length};
 ghost use Rattle.answers.specs.Outcome.{countedView};
-ghost use Rattle.periods.specs.Part.{partView, partOutcome, PartMeaning};
+ghost use Rattle.periods.specs.Part.{partView, partOutcome, partTable};
 ghost use Rattle.runs.specs.Calls.{runsOutcome, runsTable, RunsMeaning};
 ghost use Rattle.nodes.specs.Calls.{nodesOutcome, nodesTable, NodesMeaning};
 ghost use Rattle.repetitions.specs.BestSplit.{bestOutcome, bestEndsTable, bestWork};
 ghost use Rattle.repetitions.specs.Judge.{splitOutcome, SplitMeaning};
 ghost use Rattle.paths.specs.Calls.{pathOutcome, pathTable, pathJudgedOutcome, PathJudgedMeaning};
 ghost use Rattle.plans.specs.Calls.{planView, writeOutcome, writeTable, WriteMeaning, readOutcome, readTable, ReadMeaning};
-ghost use Rattle.cegridom.specs.Export.{resultOf, indexOf, valueOf, BestHanded, PathHanded, version};
+ghost use Rattle.cegridom.specs.Export.{resultOf, indexOf, valueOf, PartHanded, BestHanded, PathHanded, version};
 use answers::Counted;
 use periods::PartAnswer;
 use plans::PlanAnswer;
 
 // The version of this interface, 1,000 × major + minor.
-pub const VERSION: u32 = 3;
+pub const VERSION: u32 = 4;
 
 // Takes an answer that gives one number apart.
 fn hand_over(answer: Counted, count: &mut u32, index: &mut u32) -> u32
@@ -105,28 +105,31 @@ fn hand_over_plan(answer: PlanAnswer, n: &mut u32, count: &mut u32, index: &mut 
 }
 
 // Part: the unit, turns and rest of the symbols at the positions first to last, and 1 for a block or
-// 0; only whether it is a block depends on the edition. Refusals: 1, 12, 6.
+// 0; only whether it is a block depends on the edition. Writes the unit of every leading part of
+// that part but the empty one to units, place i for its first i symbols. Refusals: 1, 12, 6, 7.
 #[no_mangle]
 pub extern "C" fn cegridom_part(
     w: &[u8],
     edition: u32,
     first: u32,
     last: u32,
+    units: &mut [u32],
     unit: &mut u32,
     turns: &mut u32,
     rest: &mut u32,
     block: &mut u32,
     index: &mut u32,
 ) -> u32
-    ensures result { λ r. ⌜ r ≡ resultOf (partOutcome (now (w .entry)) edition first last) ⌝ }
-    ensures unit { λ _. ⌜ now (unit .exit) ≡ valueOf 0 (partOutcome (now (w .entry)) edition first last) ⌝ }
-    ensures turns { λ _. ⌜ now (turns .exit) ≡ valueOf 1 (partOutcome (now (w .entry)) edition first last) ⌝ }
-    ensures rest { λ _. ⌜ now (rest .exit) ≡ valueOf 2 (partOutcome (now (w .entry)) edition first last) ⌝ }
-    ensures block { λ _. ⌜ now (block .exit) ≡ valueOf 3 (partOutcome (now (w .entry)) edition first last) ⌝ }
-    ensures index { λ _. ⌜ now (index .exit) ≡ indexOf (partOutcome (now (w .entry)) edition first last) ⌝ }
-    ensures meaning { λ _. ⌜ PartMeaning (now (w .entry)) edition first last (partOutcome (now (w .entry)) edition first last) ⌝ }
+    ensures result { λ r. ⌜ r ≡ resultOf (partOutcome (now (w .entry)) edition first last (length (now (units .entry)))) ⌝ }
+    ensures unit { λ _. ⌜ now (unit .exit) ≡ valueOf 0 (partOutcome (now (w .entry)) edition first last (length (now (units .entry)))) ⌝ }
+    ensures turns { λ _. ⌜ now (turns .exit) ≡ valueOf 1 (partOutcome (now (w .entry)) edition first last (length (now (units .entry)))) ⌝ }
+    ensures rest { λ _. ⌜ now (rest .exit) ≡ valueOf 2 (partOutcome (now (w .entry)) edition first last (length (now (units .entry)))) ⌝ }
+    ensures block { λ _. ⌜ now (block .exit) ≡ valueOf 3 (partOutcome (now (w .entry)) edition first last (length (now (units .entry)))) ⌝ }
+    ensures index { λ _. ⌜ now (index .exit) ≡ indexOf (partOutcome (now (w .entry)) edition first last (length (now (units .entry)))) ⌝ }
+    ensures written { λ _. ⌜ now (units .exit) ≡ partTable (now (w .entry)) edition first last (now (units .entry)) ⌝ }
+    ensures meaning { λ _. ⌜ PartHanded (now (w .entry)) edition first last (now (units .entry)) (now (units .exit)) ⌝ }
 {
-    let answer = periods::part(w, edition, first, last);
+    let answer = periods::part(w, edition, first, last, units);
     hand_over_part(answer, unit, turns, rest, block, index)
 }
 

@@ -5,77 +5,77 @@ use mathlib.Core.List.{List, [], _∷_, _++_}
 use Prim.Native.Nat.{ℕ}
 use lib.ListN.{replicate}
 use Rattle.answers.specs.Outcome.{accepted, refused}
-use Rattle.periods.specs.Period.{smallestPeriod, repetition?, prefixPeriods, anyPeriod}
+use Rattle.periods.specs.Period.{smallestPeriod, repetition?, prefixPeriods, anyPeriod, unitsTable}
 use Rattle.periods.specs.Edition.{badEdition?, turnsOf}
-use Rattle.periods.specs.Part.{partOutcome, description}
+use Rattle.periods.specs.Part.{partOutcome, partTable, description}
 use Rattle.periods.proofs.Words.{word-aaa, word-aaaaa, word-aabaabaa, word-ababa}
 
 -- "ababa * | 5 (unit 2, turns 2, rest 1)"
-pub part-of-ababa : partOutcome word-ababa 1 1 5 ≡ accepted (2 ∷ 2 ∷ 1 ∷ 1 ∷ [])
+pub part-of-ababa : partOutcome word-ababa 1 1 5 5 ≡ accepted (2 ∷ 2 ∷ 1 ∷ 1 ∷ [])
 unfolding partOutcome description repetition? smallestPeriod badEdition? turnsOf
 part-of-ababa = refl
 
 -- the block of the printed text: "block,1,1,8,3,2,2,2"
-pub part-of-aabaabaa : partOutcome word-aabaabaa 1 1 8 ≡ accepted (3 ∷ 2 ∷ 2 ∷ 1 ∷ [])
+pub part-of-aabaabaa : partOutcome word-aabaabaa 1 1 8 8 ≡ accepted (3 ∷ 2 ∷ 2 ∷ 1 ∷ [])
 unfolding partOutcome description repetition? smallestPeriod badEdition? turnsOf
 part-of-aabaabaa = refl
 
 -- the single symbol has a period, itself, and is no block
-pub part-of-one : partOutcome word-ababa 1 2 2 ≡ accepted (1 ∷ 1 ∷ 0 ∷ 0 ∷ [])
+pub part-of-one : partOutcome word-ababa 1 2 2 1 ≡ accepted (1 ∷ 1 ∷ 0 ∷ 0 ∷ [])
 unfolding partOutcome description repetition? smallestPeriod badEdition? turnsOf
 part-of-one = refl
 
 -- "In edition 2 a block has length ≥ 3 × unit": ababa has two turns, aaaaa five; unit, turns and rest stay
-pub part-of-ababa-in-2 : partOutcome word-ababa 2 1 5 ≡ accepted (2 ∷ 2 ∷ 1 ∷ 0 ∷ [])
+pub part-of-ababa-in-2 : partOutcome word-ababa 2 1 5 5 ≡ accepted (2 ∷ 2 ∷ 1 ∷ 0 ∷ [])
 unfolding partOutcome description repetition? smallestPeriod badEdition? turnsOf
 part-of-ababa-in-2 = refl
 
-pub part-of-aaaaa-in-2 : partOutcome word-aaaaa 2 1 5 ≡ accepted (1 ∷ 5 ∷ 0 ∷ 1 ∷ [])
+pub part-of-aaaaa-in-2 : partOutcome word-aaaaa 2 1 5 5 ≡ accepted (1 ∷ 5 ∷ 0 ∷ 1 ∷ [])
 unfolding partOutcome description repetition? smallestPeriod badEdition? turnsOf
 part-of-aaaaa-in-2 = refl
 
 -- exactly three turns are enough
-pub part-of-aaa-in-2 : partOutcome word-aaa 2 1 3 ≡ accepted (1 ∷ 3 ∷ 0 ∷ 1 ∷ [])
+pub part-of-aaa-in-2 : partOutcome word-aaa 2 1 3 3 ≡ accepted (1 ∷ 3 ∷ 0 ∷ 1 ∷ [])
 unfolding partOutcome description repetition? smallestPeriod badEdition? turnsOf
 part-of-aaa-in-2 = refl
 
--- "12, an edition other than 1 or 2, directly after 1": before 6
-pub part-edition-0 : partOutcome word-ababa 0 0 5 ≡ refused 12 0
+-- "12, an edition other than 1 or 2, directly after 1": before 6 and 7
+pub part-edition-0 : partOutcome word-ababa 0 0 5 0 ≡ refused 12 0
 unfolding partOutcome badEdition?
 part-edition-0 = refl
 
-pub part-edition-3 : partOutcome word-ababa 3 4 3 ≡ refused 12 0
+pub part-edition-3 : partOutcome word-ababa 3 4 3 0 ≡ refused 12 0
 unfolding partOutcome badEdition?
 part-edition-3 = refl
 
-pub part-too-long-before-edition : partOutcome (replicate 4097 97) 3 1 1 ≡ refused 1 0
+pub part-too-long-before-edition : partOutcome (replicate 4097 97) 3 1 1 0 ≡ refused 1 0
 unfolding partOutcome
 part-too-long-before-edition = refl
 
--- "6: first below 1, last above n or first above last"
-pub part-first-zero : partOutcome word-ababa 1 0 5 ≡ refused 6 0
+-- "6: first below 1, last above n or first above last"; 7 comes "after 6"
+pub part-first-zero : partOutcome word-ababa 1 0 5 0 ≡ refused 6 0
 unfolding partOutcome badEdition?
 part-first-zero = refl
 
-pub part-last-above : partOutcome word-ababa 1 1 6 ≡ refused 6 0
+pub part-last-above : partOutcome word-ababa 1 1 6 0 ≡ refused 6 0
 unfolding partOutcome badEdition?
 part-last-above = refl
 
-pub part-turned : partOutcome word-ababa 1 4 3 ≡ refused 6 0
+pub part-turned : partOutcome word-ababa 1 4 3 0 ≡ refused 6 0
 unfolding partOutcome badEdition?
 part-turned = refl
 
-pub part-of-empty : partOutcome [] 1 1 0 ≡ refused 6 0
+pub part-of-empty : partOutcome [] 1 1 0 0 ≡ refused 6 0
 unfolding partOutcome badEdition?
 part-of-empty = refl
 
 -- "4,097 passes": 1 comes before 6
-pub part-too-long-first : partOutcome (replicate 4097 97) 1 0 0 ≡ refused 1 0
+pub part-too-long-first : partOutcome (replicate 4097 97) 1 0 0 0 ≡ refused 1 0
 unfolding partOutcome badEdition?
 part-too-long-first = refl
 
 -- "The limit is n = 4,096": so many are taken
-pub part-longest : partOutcome (replicate 4096 97) 1 0 0 ≡ refused 6 0
+pub part-longest : partOutcome (replicate 4096 97) 1 0 0 0 ≡ refused 6 0
 unfolding partOutcome badEdition?
 part-longest = refl
 
@@ -101,6 +101,34 @@ pub unit-of-257 : repetition? anyPeriod 2 (long-unit ++ long-unit) ≡ true
 unfolding repetition? smallestPeriod
 unit-of-257 = refl
 
-pub prefix-periods-of-aabaabaa : prefixPeriods word-aabaabaa 8 ≡ 1 ∷ 1 ∷ 3 ∷ 3 ∷ 3 ∷ 3 ∷ 3 ∷ 3 ∷ []
-unfolding prefixPeriods smallestPeriod
-prefix-periods-of-aabaabaa = refl
+-- "writes the unit of every leading part of that part but the empty one, one place for each length from 1": the other places stay
+pub units-of-aabaabaa : partTable word-aabaabaa 1 1 8 (replicate 9 7) ≡ 1 ∷ 1 ∷ 3 ∷ 3 ∷ 3 ∷ 3 ∷ 3 ∷ 3 ∷ 7 ∷ []
+unfolding partTable unitsTable prefixPeriods smallestPeriod badEdition?
+units-of-aabaabaa = refl
+
+pub units-of-ababa : partTable word-ababa 1 1 5 (replicate 5 7) ≡ 1 ∷ 2 ∷ 2 ∷ 2 ∷ 2 ∷ []
+unfolding partTable unitsTable prefixPeriods smallestPeriod badEdition?
+units-of-ababa = refl
+
+-- of the part, not of the word: baabaa, the same in edition 2
+pub units-from-3 : partTable word-aabaabaa 2 3 8 (replicate 8 7) ≡ 1 ∷ 2 ∷ 3 ∷ 3 ∷ 3 ∷ 3 ∷ 7 ∷ 7 ∷ []
+unfolding partTable unitsTable prefixPeriods smallestPeriod badEdition?
+units-from-3 = refl
+
+-- a place short: 7, and the table keeps its contents
+pub part-a-place-short : partOutcome word-ababa 1 1 5 4 ≡ refused 7 0
+unfolding partOutcome badEdition?
+part-a-place-short = refl
+
+pub units-a-place-short : partTable word-ababa 1 1 5 (replicate 4 7) ≡ replicate 4 7
+unfolding partTable badEdition?
+units-a-place-short = refl
+
+-- so do the other refusals
+pub units-outside : partTable word-ababa 1 1 6 (replicate 6 7) ≡ replicate 6 7
+unfolding partTable badEdition?
+units-outside = refl
+
+pub units-edition-3 : partTable word-ababa 3 1 5 (replicate 5 7) ≡ replicate 5 7
+unfolding partTable badEdition?
+units-edition-3 = refl

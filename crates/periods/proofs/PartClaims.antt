@@ -1,24 +1,25 @@
--- What the part call answers means what the documents say, for every word, edition, first and last; and its answers are told apart by their numbers. By the
--- order of the tests in the definition. Assumes nothing.
-use mathlib.Core.Path.{_≡_, refl, sym, ap, subst}
+-- What the part call answers and writes means what the documents say, for every word, edition, first, last and table: `part-means`. One law for each outcome
+-- gives both from the tests that lead to it. Answers are told apart by their numbers. By the order of the tests in the definitions. Assumes nothing.
+use mathlib.Core.Path.{_≡_, refl, sym, ap, _∙_, subst}
 use mathlib.Core.Bool.{Bool, true, false, _||_, and-true, or-true}
 use mathlib.Core.List.{List, [], _∷_}
-use Prim.Native.Nat.{ℕ, _-_, _*_, _/_, _%_, _≤_, _<_}
+use Prim.Native.Nat.{ℕ, suc, _+_, _-_, _*_, _/_, _%_, _≤_, _<_}
 use native.Mathlib.Omega.{arith}
 use native.Mathlib.Decide.{decLt, decLe}
 use native.Mathlib.Nat.{div-add-mod', mod-lt}
 use borrow.Author.Tests.{lt-ltb, le-ltb}
 use lib.Dec.{T, leb, ltb}
-use lib.ListN.{length}
+use lib.ListN.{length, getD, take, length-take}
 use Rattle.answers.specs.Outcome.{Outcome, accepted, refused, refusal, limit}
 use Rattle.answers.proofs.Claims.{refused-accepted, refusal-injective}
 use Rattle.periods.specs.declared.PartAnswer.{PartAnswer}
 use Rattle.periods.specs.declared.PartAnswer.the-variants.{Described, Refused}
-use Rattle.periods.specs.Period.{part, smallestPeriod, repetition?, anyPeriod}
+use Rattle.periods.specs.Period.{part, SmallestPeriod, smallestPeriod, repetition?, anyPeriod, unitsTable}
 use Rattle.periods.specs.Edition.{Edition, turnsOf}
-use Rattle.periods.specs.Part.{flag, partView, description, partOutcome, Within, Describes, PartMeaning, too-long, bad-edition, outside, described}
+use Rattle.periods.specs.Part.{flag, partView, description, partOutcome, partTable, Within, Describes, Grows, PartMeaning, too-long, bad-edition, outside, too-few, described}
 use Rattle.periods.proofs.InPlace.{placed-part}
 use Rattle.periods.proofs.Claims.{smallest-period-is, repetition-sound, repetition-complete}
+use Rattle.periods.proofs.UnitsTable.{units-length, units-at, units-last, units-rest}
 use Rattle.periods.proofs.Editions.{test-of-edition, test-of-no-edition, edition?}
 
 -- ---- the description
@@ -76,48 +77,87 @@ outside-tests w first last h = go (decLt first 1) (decLt (length w) last) (decLt
 within-tests : (w : List ℕ) (first last : ℕ) → Within w first last → (ltb first 1 || (ltb (length w) last || ltb last first)) ≡ false
 within-tests w first last h = simp (le-ltb first 1 (h .0), le-ltb (length w) last (h .2), le-ltb last first (h .1))
 
-module _ (w : List ℕ) (edition first last : ℕ) where
-  pub part-too-long : limit < length w → refused 1 0 ≡ partOutcome w edition first last
-  unfolding partOutcome
-  part-too-long h = simp (lt-ltb limit (length w) h)
+-- CLAIM: the table holds the unit of every non-empty prefix, and the last of them is the word's own
+pub grows : (s t : List ℕ) → 0 < length s → length s ≤ length t → Grows s t (unitsTable s t) (smallestPeriod s)
+grows s t h k = record { units = units; last = units-last s t h; kept = units-rest s t; long = units-length s t k }
+  where
+    units : (m : ℕ) → 1 ≤ m → m ≤ length s → SmallestPeriod (take m s) (getD (unitsTable s t) (m - 1) 0)
+    units m a b =
+        let e : suc (m - 1) ≡ m = omega arith in
+        rw (units-at s t (m - 1) (omega arith), e) (smallest-period-is (take m s) (omega (arith, length-take m s)))
 
-  pub part-bad-edition : length w ≤ limit → (Edition edition → ⊥) → refused 12 0 ≡ partOutcome w edition first last
-  unfolding partOutcome
-  part-bad-edition h e = simp (le-ltb limit (length w) h, test-of-no-edition edition e)
+-- what the call answers and leaves; t is the table at entry, x the table at exit
+abbrev pub PartGives : List ℕ → ℕ → ℕ → ℕ → List ℕ → Outcome → List ℕ → Type 0
+PartGives w edition first last t o x = (o ≡ partOutcome w edition first last (length t)) × (x ≡ partTable w edition first last t)
 
-  pub part-outside : length w ≤ limit → Edition edition → (Within w first last → ⊥) → refused 6 0 ≡ partOutcome w edition first last
-  unfolding partOutcome
-  part-outside h e k = simp (le-ltb limit (length w) h, test-of-edition edition e, outside-tests w first last k)
+module _ (w : List ℕ) (edition first last : ℕ) (t : List ℕ) where
+  pub part-too-long : limit < length w → PartGives w edition first last t (refused 1 0) t
+  unfolding partOutcome partTable
+  part-too-long h = (simp (lt-ltb limit (length w) h), simp (lt-ltb limit (length w) h))
 
-  pub part-described : length w ≤ limit → Edition edition → Within w first last
-      → accepted (description (turnsOf edition) (part w (first - 1) last)) ≡ partOutcome w edition first last
-  unfolding partOutcome
-  part-described h e k = simp (le-ltb limit (length w) h, test-of-edition edition e, within-tests w first last k)
+  pub part-bad-edition : length w ≤ limit → (Edition edition → ⊥) → PartGives w edition first last t (refused 12 0) t
+  unfolding partOutcome partTable
+  part-bad-edition h e = (simp (le-ltb limit (length w) h, test-of-no-edition edition e), simp (le-ltb limit (length w) h, test-of-no-edition edition e))
 
-  -- CLAIM: what the part call answers means what the documents say
-  pub part-means : PartMeaning w edition first last (partOutcome w edition first last)
+  module _ (h : length w ≤ limit) (e : Edition edition) where
+    pub part-outside : (Within w first last → ⊥) → PartGives w edition first last t (refused 6 0) t
+    unfolding partOutcome partTable
+    part-outside k = (
+      simp (le-ltb limit (length w) h, test-of-edition edition e, outside-tests w first last k),
+      simp (le-ltb limit (length w) h, test-of-edition edition e, outside-tests w first last k),
+    )
+
+    module _ (k : Within w first last) where
+      pub part-too-few : length t < last - first + 1 → PartGives w edition first last t (refused 7 0) t
+      unfolding partOutcome partTable
+      part-too-few l = (
+        simp (le-ltb limit (length w) h, test-of-edition edition e, within-tests w first last k, lt-ltb (length t) (last - first + 1) l),
+        simp (le-ltb limit (length w) h, test-of-edition edition e, within-tests w first last k, lt-ltb (length t) (last - first + 1) l),
+      )
+
+      pub part-described : last - first + 1 ≤ length t
+          → PartGives w edition first last t (accepted (description (turnsOf edition) (part w (first - 1) last))) (unitsTable (part w (first - 1) last) t)
+      unfolding partOutcome partTable
+      part-described l = (
+        simp (le-ltb limit (length w) h, test-of-edition edition e, within-tests w first last k, le-ltb (length t) (last - first + 1) l),
+        simp (le-ltb limit (length w) h, test-of-edition edition e, within-tests w first last k, le-ltb (length t) (last - first + 1) l),
+      )
+
+  -- CLAIM: what the part call answers and writes means what the documents say
+  pub part-means : PartMeaning w edition first last t (partOutcome w edition first last (length t)) (partTable w edition first last t)
   unfolding description
-  part-means = go (decLt limit (length w)) (edition? edition) (decLe 1 first) (decLe first last) (decLe last (length w))
+  part-means = go (decLt limit (length w)) (edition? edition)
     where
-      out : length w ≤ limit → Edition edition → (Within w first last → ⊥) → PartMeaning w edition first last (partOutcome w edition first last)
-      out h e k = outside h e k (sym (part-outside h e k))
+      Means : Type 0
+      Means = PartMeaning w edition first last t (partOutcome w edition first last (length t)) (partTable w edition first last t)
 
-      go : Dec (limit < length w) → Dec (Edition edition) → Dec (1 ≤ first) → Dec (first ≤ last) → Dec (last ≤ length w)
-          → PartMeaning w edition first last (partOutcome w edition first last)
-      go (yes h) e x y z = too-long h (sym (part-too-long h))
-      go (no h) (no e) x y z = bad-edition (omega arith) e (sym (part-bad-edition (omega arith) e))
-      go (no h) (yes e) (no x) y z = out (omega arith) e (λ k. x (k .0))
-      go (no h) (yes e) (yes x) (no y) z = out (omega arith) e (λ k. y (k .1))
-      go (no h) (yes e) (yes x) (yes y) (no z) = out (omega arith) e (λ k. z (k .2))
-      go (no h) (yes e) (yes x) (yes y) (yes z) =
+      inside : length w ≤ limit → Edition edition → Within w first last → Dec (length t < last - first + 1) → Means
+      inside h e k (yes l) = let g = part-too-few h e k l in too-few h e k l (sym (g .0)) (sym (g .1))
+      inside h e k (no l) =
           let s = part w (first - 1) last in
-          described (omega arith) e (x, y, z) (smallestPeriod s) (length s / smallestPeriod s) (length s % smallestPeriod s) (flag (repetition? anyPeriod (turnsOf edition) s))
-          (describes (turnsOf edition) s (omega (arith, part-length w first last (x, y, z))))
-          (sym (part-described (omega arith) e (x, y, z)))
+          let n : length s ≡ last - first + 1 = part-length w first last k ∙ omega (arith, k) in
+          let g = part-described h e k (omega arith) in
+          described h e k (omega arith) (smallestPeriod s) (length s / smallestPeriod s) (length s % smallestPeriod s) (flag (repetition? anyPeriod (turnsOf edition) s))
+          (describes (turnsOf edition) s (omega arith)) (sym (g .0)) (subst (λ (x : List ℕ). Grows s t x (smallestPeriod s)) (g .1) (grows s t (omega arith) (omega arith)))
 
-  -- the answer with its meaning
-  pub part-answered : (o : Outcome) → o ≡ partOutcome w edition first last → (o ≡ partOutcome w edition first last) × PartMeaning w edition first last o
-  part-answered o e = (e, subst (λ (x : Outcome). PartMeaning w edition first last x) (sym e) part-means)
+      out : length w ≤ limit → Edition edition → (Within w first last → ⊥) → Means
+      out h e k = let g = part-outside h e k in outside h e k (sym (g .0)) (sym (g .1))
+
+      known : length w ≤ limit → Edition edition → Dec (1 ≤ first) → Dec (first ≤ last) → Dec (last ≤ length w) → Means
+      known h e (no x) y z = out h e (λ k. x (k .0))
+      known h e (yes x) (no y) z = out h e (λ k. y (k .1))
+      known h e (yes x) (yes y) (no z) = out h e (λ k. z (k .2))
+      known h e (yes x) (yes y) (yes z) = inside h e (x, y, z) (decLt (length t) (last - first + 1))
+
+      go : Dec (limit < length w) → Dec (Edition edition) → Means
+      go (yes h) e = let g = part-too-long h in too-long h (sym (g .0)) (sym (g .1))
+      go (no h) (no e) = let g = part-bad-edition (omega arith) e in bad-edition (omega arith) e (sym (g .0)) (sym (g .1))
+      go (no h) (yes e) = known (omega arith) e (decLe 1 first) (decLe first last) (decLe last (length w))
+
+  -- the answer and the table with their meaning
+  pub part-answered : (o : Outcome) (x : List ℕ) → PartGives w edition first last t o x
+      → (o ≡ partOutcome w edition first last (length t)) × ((x ≡ partTable w edition first last t) × PartMeaning w edition first last t o x)
+  part-answered o x g = (g .0, (g .1, rw (g .0, g .1) part-means))
 
 -- ---- CLAIM: an answer is determined by its numbers
 

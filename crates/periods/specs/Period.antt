@@ -61,3 +61,7 @@ repetition? allowed k s = ltb 0 (length s) && (leb (k * smallestPeriod s) (lengt
 unfoldable pub prefixPeriods : List ℕ → ℕ → List ℕ
 prefixPeriods s zero = []
 prefixPeriods s (suc m) = prefixPeriods s m ++ (smallestPeriod (take (suc m) s) ∷ [])
+
+-- these of all prefixes in the first places of a table, whose other places stay
+unfoldable pub unitsTable : List ℕ → List ℕ → List ℕ
+unitsTable s t = prefixPeriods s (length s) ++ drop (length s) t

@@ -1,37 +1,43 @@
 // For the library's own crates: the caller shows what each function requires.
-ghost use mathlib.Core.List.{_++_};
 ghost use mathlib.Core.Path.{_≡_};
 ghost use Prim.Native.Nat.{_≤_, _<_, _^_};
-ghost use lib.ListN.{length, drop};
-ghost use Rattle.periods.specs.Period.{prefixPeriods};
+ghost use lib.ListN.{length};
+ghost use Rattle.periods.specs.Period.{smallestPeriod, unitsTable};
 
-// Writes the smallest period of every non-empty prefix of the part, one place for each length from
-// 1; the places after these stay. At most 2 × length turns of the loop; no stack.
-// d is the smallest candidate for the prefix of length m + 1 that is a period of the one of length
-// m; where it fails, the next one is d plus the smallest period of the prefix of length m - d.
-pub fn units(part: &[u8], table: &mut [u32])
+// The unit of the part that is lent, 0 for an empty one; writes the unit of every non-empty prefix,
+// one place for each length from 1; the places after these stay. Both loops together take at most
+// 2 × length turns, since m + p rises in each; no stack.
+// p is the smallest candidate for the prefix of m + 1 symbols that is a period of the first m, so
+// that the pairs p apart before (m - p, m) agree. Where that pair differs, the next candidate is p
+// plus the unit of the prefix of m - p symbols; where p is all of m, only m + 1 is left.
+pub fn units(part: &[u8], table: &mut [u32]) -> usize
     requires { ⌜ (length (now part) ≤ length (now table)) × (length (now part) < 2 ^ 32) ⌝ }
-    ensures { λ _. ⌜ now (table .exit) ≡ prefixPeriods (now (part .entry)) (length (now (part .entry))) ++ drop (length (now (part .entry))) (now (table .entry)) ⌝ }
+    ensures unit { λ r. ⌜ r ≡ smallestPeriod (now (part .entry)) ⌝ }
+    ensures written { λ _. ⌜ now (table .exit) ≡ unitsTable (now (part .entry)) (now (table .entry)) ⌝ }
 {
     let n = part.len();
     if n == 0 {
-        return;
+        return 0;
     }
     table[0] = 1;
     let mut m: usize = 1;
-    let mut d: usize = 1;
-    while m < n {
-        if part[m] == part[m - d] {
-            table[m] = d as u32;
+    let mut p: usize = 1;
+    'outer: loop {
+        while m < n {
+            if part[m - p] == part[m] {
+                table[m] = p as u32;
+                m += 1;
+                continue;
+            }
+            if p < m {
+                p += table[m - p - 1] as usize;
+                continue 'outer;
+            }
+            p = m + 1;
+            table[m] = p as u32;
             m += 1;
-            continue;
+            continue 'outer;
         }
-        if d < m {
-            d += table[m - d - 1] as usize;
-            continue;
-        }
-        d = m + 1;
-        table[m] = d as u32;
-        m += 1;
+        break p;
     }
 }

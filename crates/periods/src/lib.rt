@@ -1,8 +1,9 @@
 // Parts of a word, their periods, the editions, and the part call.
 ghost use mathlib.Core.Path.{_≡_};
+ghost use lib.ListN.{length};
 ghost use Rattle.periods.specs.Period.{smallestPeriod};
 ghost use Rattle.periods.specs.Edition.{badEdition?, turnsOf};
-ghost use Rattle.periods.specs.Part.{partView, partOutcome, PartMeaning};
+ghost use Rattle.periods.specs.Part.{partView, partOutcome, partTable, PartMeaning};
 
 pub mod inner;
 
@@ -77,11 +78,14 @@ pub fn smallest_period(part: &[u8]) -> usize
 }
 
 // The part call: unit, turns, rest, and block or not, of the symbols at the positions first to
-// last, counted from 1; the edition decides about the block alone. Refusals: 1, 12, 6. Time: as
-// smallest_period of that part.
-pub fn part(w: &[u8], edition: u32, first: u32, last: u32) -> PartAnswer
-    ensures answer { λ r. ⌜ partView r ≡ partOutcome (now (w .entry)) edition first last ⌝ }
-    ensures meaning { λ r. ⌜ PartMeaning (now (w .entry)) edition first last (partView r) ⌝ }
+// last, counted from 1; the edition decides about the block alone. Writes the unit of every leading
+// part of that part but the empty one, place i for its first i symbols, and keeps the other places;
+// the unit answered is the last one written. Refusals: 1, 12, 6, 7. Time linear in the part's
+// length.
+pub fn part(w: &[u8], edition: u32, first: u32, last: u32, units: &mut [u32]) -> PartAnswer
+    ensures answer { λ r. ⌜ partView r ≡ partOutcome (now (w .entry)) edition first last (length (now (units .entry))) ⌝ }
+    ensures written { λ r. ⌜ now (units .exit) ≡ partTable (now (w .entry)) edition first last (now (units .entry)) ⌝ }
+    ensures meaning { λ r. ⌜ PartMeaning (now (w .entry)) edition first last (now (units .entry)) (partView r) (now (units .exit)) ⌝ }
 {
     let n = w.len();
     if answers::LIMIT < n {
@@ -101,8 +105,11 @@ pub fn part(w: &[u8], edition: u32, first: u32, last: u32) -> PartAnswer
         return PartAnswer::Refused(Refusal::BadPosition);
     }
     let start = first as usize - 1;
-    let unit = smallest_period(&w[start..end]);
     let len = end - start;
+    if units.len() < len {
+        return PartAnswer::Refused(Refusal::TooFewPlaces);
+    }
+    let unit = inner::units(&w[start..end], units);
     let turns = turns(edition);
     PartAnswer::Described(Description {
         period: unit as u32,

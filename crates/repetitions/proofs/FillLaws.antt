@@ -11,10 +11,13 @@ use lib.Dec.{leb}
 use lib.ListN.{length, getD, take, drop, replicate, length-take, length-drop, length-append, length-replicate, getD-replicate, List·getD-append}
 use lib.Seq.{take-take, drop-drop}
 use Rattle.answers.specs.Outcome.{limit}
-use Rattle.periods.specs.Period.{part, smallestPeriod, repetition?, prefixPeriods, anyPeriod}
+use Rattle.periods.specs.Period.{part, smallestPeriod, repetition?, anyPeriod, unitsTable}
+use Rattle.periods.specs.Edition.{Edition}
+use Rattle.periods.specs.Part.{partTable}
 use Rattle.periods.proofs.InPlace.{placed-part}
-use Rattle.periods.proofs.Claims.{prefix-periods-length, prefix-periods-at, prefix-periods-rise}
-use Rattle.periods.proofs.PartClaims.{repetition-any}
+use Rattle.periods.proofs.Claims.{prefix-periods-rise}
+use Rattle.periods.proofs.UnitsTable.{units-length, units-of-part}
+use Rattle.periods.proofs.PartClaims.{repetition-any, part-described}
 use Rattle.factors.specs.Factorization.{Choice}
 use Rattle.factors.specs.Table.{none, rows, sizes, previous, started, spread, filled}
 use Rattle.factors.proofs.TableLaws.{length-started, started-drop}
@@ -46,31 +49,16 @@ zeros t a b = replicate (length (take (b - a) (drop a t))) 0
 pub zeros-length : (t : List ℕ) (a b : ℕ) → b ≤ length t → length (zeros t a b) ≡ b - a
 zeros-length t a b h = length-replicate (length (take (b - a) (drop a t))) 0 ∙ length-take (b - a) (drop a t) ∙ omega (arith, length-drop a t)
 
--- the units of the parts after boundary j, as `periods::inner::units` leaves them in row 2
+-- the units of the parts after boundary j, as the part call leaves them in row 2
 abbrev pub unitsRow : List ℕ → ℕ → List ℕ → List ℕ
-unitsRow w j r = prefixPeriods (part w j (length w)) (length (part w j (length w))) ++ drop (length (part w j (length w))) r
+unitsRow w j r = unitsTable (part w j (length w)) r
 
 module _ (w : List ℕ) (j : ℕ) (r : List ℕ) where
-  after : length (part w j (length w)) ≡ length w - j
-  after = placed-part w j (length w) (omega arith) .long
-
   units-row-length : length w - j ≤ length r → length (unitsRow w j r) ≡ length r
-  units-row-length h =
-      omega (
-        arith,
-        length-append (prefixPeriods (part w j (length w)) (length (part w j (length w)))) (drop (length (part w j (length w))) r),
-        prefix-periods-length (part w j (length w)) (length (part w j (length w))),
-        length-drop (length (part w j (length w))) r,
-        after,
-      )
+  units-row-length h = units-length (part w j (length w)) r (omega (arith, placed-part w j (length w) (omega arith) .long))
 
   units-row-at : (d : ℕ) → j + d < length w → getD (unitsRow w j r) d 0 ≡ smallestPeriod (part w j (j + (d + 1)))
-  units-row-at d h =
-      let e : suc d ≡ j + (d + 1) - j = omega arith in
-      List·getD-append (prefixPeriods (part w j (length w)) (length (part w j (length w)))) (drop (length (part w j (length w))) r) 0 d
-      (omega (arith, prefix-periods-length (part w j (length w)) (length (part w j (length w))), after))
-      ∙ prefix-periods-at (part w j (length w)) (length (part w j (length w))) d (omega (arith, after))
-      ∙ ap smallestPeriod (take-take (suc d) (length w - j) (drop j w) (omega arith) ∙ ap (λ (x : ℕ). take x (drop j w)) e)
+  units-row-at d h = let e : j + (d + 1) - j - 1 ≡ d = omega arith in rw e at (units-of-part w r j (j + (d + 1)) (omega arith) (omega arith))
 
 -- the smallest periods of longer parts after a boundary are not smaller
 parts-rise : (w : List ℕ) (j a b : ℕ) → a ≤ b → j + b < length w → smallestPeriod (part w j (j + (a + 1))) ≤ smallestPeriod (part w j (j + (b + 1)))
@@ -87,15 +75,25 @@ parts-rise w j a b h k =
         let e : d + 1 ≡ j + (d + 1) - j = omega arith in
         take-take (d + 1) (length w - j) (drop j w) (omega arith) ∙ ap (λ (x : ℕ). take x (drop j w)) e
 
+-- row 2 of a table
+abbrev pub rowTwo : List ℕ → List ℕ → List ℕ
+rowTwo w t = take (third (length w) - second (length w)) (drop (second (length w)) t)
+
+row-two-long : (w t : List ℕ) → rows * (length w + 1) ≤ length t → length (rowTwo w t) ≡ third (length w) - second (length w)
+row-two-long w t room = length-take (third (length w) - second (length w)) (drop (second (length w)) t) ∙ omega (arith, length-drop (second (length w)) t)
+
 -- a table with these units in row 2
 pub laid : List ℕ → ℕ → List ℕ → List ℕ
-laid w j t = lent t (second (length w)) (third (length w)) (unitsRow w j (take (third (length w) - second (length w)) (drop (second (length w)) t)))
+laid w j t = lent t (second (length w)) (third (length w)) (unitsRow w j (rowTwo w t))
 
--- as the part of the table that was lent leaves it
-pub laid-from : (w : List ℕ) (j : ℕ) (t u : List ℕ) → u ≡ unitsRow w j (take (third (length w) - second (length w)) (drop (second (length w)) t))
-    → lent t (second (length w)) (third (length w)) u ≡ laid w j t
+-- as the part call, which was lent row 2, leaves the table
+pub laid-from : (w : List ℕ) (edition j : ℕ) (t u : List ℕ) → length w ≤ limit → Edition edition → j < length w → rows * (length w + 1) ≤ length t
+    → u ≡ partTable w edition (j + 1) (length w) (rowTwo w t) → lent t (second (length w)) (third (length w)) u ≡ laid w j t
 unfolding laid
-laid-from w j t u e = rw e refl
+laid-from w edition j t u h e l room f =
+    let g = part-described w edition (j + 1) (length w) (rowTwo w t) h e (omega arith, omega arith, omega arith) (omega (arith, row-two-long w t room)) in
+    let z : j + 1 - 1 ≡ j = omega arith in
+    ap (lent t (second (length w)) (third (length w))) (f ∙ sym (g .1) ∙ ap (λ (i : ℕ). unitsTable (part w i (length w)) (rowTwo w t)) z)
 
 -- a table whose row 0 is started and whose row 1 is cleared
 pub begun : List ℕ → List ℕ → List ℕ
@@ -156,16 +154,16 @@ module _ (k : ℕ) (c : Choice) (w : List ℕ) where
     filling-skips e =
         rw (add-one j) record { scanned = scanned-skip c (block? anyPeriod k w) (length w) j t (omega arith) e (F .scanned); long = F .long; kept = F .kept }
 
-    row-long : length (take (third (length w) - second (length w)) (drop (second (length w)) t)) ≡ third (length w) - second (length w)
-    row-long = length-take (third (length w) - second (length w)) (drop (second (length w)) t) ∙ omega (arith, length-drop (second (length w)) t, F .long)
+    row-long : length (rowTwo w t) ≡ third (length w) - second (length w)
+    row-long = row-two-long w t (omega (arith, F .long))
 
-    units-fit : length (unitsRow w j (take (third (length w) - second (length w)) (drop (second (length w)) t))) ≡ third (length w) - second (length w)
-    units-fit = units-row-length w j (take (third (length w) - second (length w)) (drop (second (length w)) t)) (omega (arith, row-long)) ∙ row-long
+    units-fit : length (unitsRow w j (rowTwo w t)) ≡ third (length w) - second (length w)
+    units-fit = units-row-length w j (rowTwo w t) (omega (arith, row-long)) ∙ row-long
 
     pub laid-long : length (laid w j t) ≡ length t₀
     unfolding laid
     laid-long =
-        lent-length t (second (length w)) (third (length w)) (unitsRow w j (take (third (length w) - second (length w)) (drop (second (length w)) t)))
+        lent-length t (second (length w)) (third (length w)) (unitsRow w j (rowTwo w t))
         (omega arith) (omega (arith, F .long)) units-fit
         ∙ F .long
 
@@ -173,10 +171,10 @@ module _ (k : ℕ) (c : Choice) (w : List ℕ) where
     unfolding laid
     laid-unit d h =
         let e : placeOfUnit (length w) d - second (length w) ≡ d = omega arith in
-        lent-within t (second (length w)) (third (length w)) (unitsRow w j (take (third (length w) - second (length w)) (drop (second (length w)) t)))
+        lent-within t (second (length w)) (third (length w)) (unitsRow w j (rowTwo w t))
         (omega arith) (omega (arith, F .long)) units-fit (placeOfUnit (length w) d) (omega arith) (omega arith)
-        ∙ ap (λ (x : ℕ). getD (unitsRow w j (take (third (length w) - second (length w)) (drop (second (length w)) t))) x 0) e
-        ∙ units-row-at w j (take (third (length w) - second (length w)) (drop (second (length w)) t)) d h
+        ∙ ap (λ (x : ℕ). getD (unitsRow w j (rowTwo w t)) x 0) e
+        ∙ units-row-at w j (rowTwo w t) d h
 
     pub laid-rises : (d e : ℕ) → d ≤ e → e < length w - j → getD (laid w j t) (placeOfUnit (length w) d) 0 ≤ getD (laid w j t) (placeOfUnit (length w) e) 0
     laid-rises d e h l = omega (arith, laid-unit d (omega arith), laid-unit e (omega arith), parts-rise w j d e h (omega arith))
@@ -184,7 +182,7 @@ module _ (k : ℕ) (c : Choice) (w : List ℕ) where
     laid-same : (i : ℕ) → i < second (length w) → getD (laid w j t) i 0 ≡ getD t i 0
     unfolding laid
     laid-same i h =
-        lent-below t (second (length w)) (third (length w)) (unitsRow w j (take (third (length w) - second (length w)) (drop (second (length w)) t)))
+        lent-below t (second (length w)) (third (length w)) (unitsRow w j (rowTwo w t))
         (omega arith) (omega (arith, F .long)) units-fit i h
 
     -- the test of the units decides where a block ends
@@ -212,7 +210,7 @@ module _ (k : ℕ) (c : Choice) (w : List ℕ) where
       where
         laid-kept : drop (rows * (length w + 1)) (laid w j t) ≡ drop (rows * (length w + 1)) t₀
         laid-kept =
-            lent-rest t (second (length w)) (third (length w)) (unitsRow w j (take (third (length w) - second (length w)) (drop (second (length w)) t)))
+            lent-rest t (second (length w)) (third (length w)) (unitsRow w j (rowTwo w t))
             (omega arith) (omega (arith, F .long)) units-fit (rows * (length w + 1)) (omega arith)
             ∙ F .kept
 

@@ -4,7 +4,7 @@ ghost use Prim.Native.Nat.{_≤_, _+_, _-_, _*_};
 ghost use lib.ListN.{length, getD};
 ghost use Rattle.answers.specs.Outcome.{countedView, limit};
 ghost use Rattle.periods.specs.Period.{anyPeriod};
-ghost use Rattle.periods.specs.Edition.{Turns};
+ghost use Rattle.periods.specs.Edition.{Edition, Turns, turnsOf};
 ghost use Rattle.factors.specs.Factorization.{choiceOf};
 ghost use Rattle.factors.specs.Table.{rows, spread, filled};
 ghost use Rattle.repetitions.specs.Block.{block?};
@@ -40,10 +40,11 @@ fn spread(work: &mut [u32], n: usize, turns: usize, choice: u32, j: usize, size:
 }
 
 // Fills the working table: the best size of each prefix length, and the previous boundary that it
-// came from. Boundaries in rising order; one that is not reached offers nothing.
-fn fill(w: &[u8], turns: usize, choice: u32, work: &mut [u32])
-    requires { ⌜ Workable (now w) (now work) × Turns turns ⌝ }
-    ensures { λ _. ⌜ now (work .exit) ≡ filled (choiceOf choice) (block? anyPeriod turns (now (w .entry))) (length (now (w .entry))) (now (work .entry)) ⌝ }
+// came from. Boundaries in rising order; one that is not reached offers nothing. The part call is
+// lent row 2 and writes the units of what follows the boundary; what it answers is not needed.
+fn fill(w: &[u8], edition: u32, choice: u32, work: &mut [u32])
+    requires { ⌜ Workable (now w) (now work) × Edition edition ⌝ }
+    ensures { λ _. ⌜ now (work .exit) ≡ filled (choiceOf choice) (block? anyPeriod (turnsOf edition) (now (w .entry))) (length (now (w .entry))) (now (work .entry)) ⌝ }
 {
     let n = w.len();
     let row = n + 1;
@@ -51,6 +52,7 @@ fn fill(w: &[u8], turns: usize, choice: u32, work: &mut [u32])
     let three = two + row;
     factors::inner::start(work, n);
     factors::inner::clear(&mut work[row..two]);
+    let turns = periods::turns(edition);
     let mut j: usize = 0;
     while j < n {
         let size = work[j];
@@ -58,7 +60,7 @@ fn fill(w: &[u8], turns: usize, choice: u32, work: &mut [u32])
             j += 1;
             continue;
         }
-        periods::inner::units(&w[j..n], &mut work[two..three]);
+        periods::part(w, edition, (j + 1) as u32, n as u32, &mut work[two..three]);
         spread(work, n, turns, choice, j, size + 1);
         j += 1;
     }
@@ -90,18 +92,18 @@ fn hand_out(work: &[u32], n: usize, ends: &mut [u32]) -> Counted
 // row of previous boundaries.
 pub(crate) fn settle(
     w: &[u8],
-    turns: usize,
+    edition: u32,
     choice: u32,
     ends: &mut [u32],
     work: &mut [u32],
 ) -> Counted
-    requires { ⌜ Workable (now w) (now work) × Turns turns ⌝ }
-    ensures { λ r. ⌜ countedView r ≡ sizeOutcome (lastCell turns (now (w .entry)) choice) (length (now (ends .entry))) ⌝ }
-    ensures { λ _. ⌜ now (ends .exit) ≡ settledEnds turns (now (w .entry)) choice (now (ends .entry)) ⌝ }
-    ensures { λ _. ⌜ now (work .exit) ≡ settledWork turns (now (w .entry)) choice (now (work .entry)) ⌝ }
+    requires { ⌜ Workable (now w) (now work) × Edition edition ⌝ }
+    ensures { λ r. ⌜ countedView r ≡ sizeOutcome (lastCell (turnsOf edition) (now (w .entry)) choice) (length (now (ends .entry))) ⌝ }
+    ensures { λ _. ⌜ now (ends .exit) ≡ settledEnds (turnsOf edition) (now (w .entry)) choice (now (ends .entry)) ⌝ }
+    ensures { λ _. ⌜ now (work .exit) ≡ settledWork (turnsOf edition) (now (w .entry)) choice (now (work .entry)) ⌝ }
 {
     let n = w.len();
-    fill(w, turns, choice, work);
+    fill(w, edition, choice, work);
     let answer = hand_out(work, n, ends);
     let row = n + 1;
     let two = row + row;

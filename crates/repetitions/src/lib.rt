@@ -41,8 +41,7 @@ pub fn best_split(
     if work.len() < factors::ROWS * (n + 1) {
         return Counted::Refused(Refusal::ShortTable);
     }
-    let turns = periods::turns(edition);
-    inner::settle(w, turns, choice, ends, work)
+    inner::settle(w, edition, choice, ends, work)
 }
 
 // Judge a split: accepted, with the number of blocks, exactly when the ends are those of a

@@ -10,13 +10,12 @@ use native.Mathlib.Numerals.{add-one}
 use native.Mathlib.Nat.{zero-add}
 use borrow.Author.Tests.{le-leb, lt-leb, eq-eqb, ne-eqb}
 use lib.Dec.{leb, eqb}
-use lib.ListN.{length, getD, drop, length-append, List·getD-append}
-use lib.Seq.{sets, take-take}
+use lib.ListN.{length, getD, length-append}
+use lib.Seq.{sets}
 use Rattle.laws.proofs.Stores.{sets-append}
 use Rattle.answers.specs.Outcome.{limit}
-use Rattle.periods.specs.Period.{part, smallestPeriod, repetition?, anyPeriod, prefixPeriods}
+use Rattle.periods.specs.Period.{part, smallestPeriod, repetition?, anyPeriod}
 use Rattle.periods.proofs.InPlace.{placed-part}
-use Rattle.periods.proofs.Claims.{prefix-periods-length, prefix-periods-at}
 use Rattle.periods.proofs.PartClaims.{repetition-any}
 use Rattle.runs.specs.declared.Record.{Record}
 use Rattle.runs.specs.Table.{left?, right?, run?, runBetween, rowsAt, rowsBefore, runsOf, stride, flat}
@@ -66,22 +65,8 @@ right-end w b p e = rw (eq-eqb b (length w) e) refl
 pub right-test : (w : List ℕ) (b p : ℕ) → b ≢ length w → right? w b p ≡ not (eqb (getD w b 0) (getD w (b - p) 0))
 right-test w b p e = rw (ne-eqb b (length w) e) refl
 
--- ---- the units after a boundary
-
 pub part-long : (w : List ℕ) (a b : ℕ) → b ≤ length w → length (part w a b) ≡ b - a
 part-long w a b h = placed-part w a b h .long
-
--- what `periods::inner::units` leaves, for the part after boundary a
-pub units-left : (w u : List ℕ) (a : ℕ)
-    → prefixPeriods (part w a (length w)) (length (part w a (length w))) ++ drop (length (part w a (length w))) u ≡ unitsAt w a u
-units-left w u a = ap (λ (n : ℕ). prefixPeriods (part w a (length w)) n ++ drop n u) (part-long w a (length w) (omega arith))
-
-pub units-place : (w u : List ℕ) (a b : ℕ) → a < b → b ≤ length w → getD (unitsAt w a u) (b - a - 1) 0 ≡ smallestPeriod (part w a b)
-units-place w u a b h k =
-    let e : suc (b - a - 1) ≡ b - a = omega arith in
-    List·getD-append (prefixPeriods (part w a (length w)) (length w - a)) (drop (length w - a) u) 0 (b - a - 1) (omega (arith, prefix-periods-length (part w a (length w)) (length w - a)))
-    ∙ prefix-periods-at (part w a (length w)) (length w - a) (b - a - 1) (omega arith)
-    ∙ rw e (ap smallestPeriod (take-take (b - a) (length w - a) (drop a w) (omega arith)))
 
 -- ---- one more boundary
 

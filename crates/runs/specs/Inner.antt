@@ -1,9 +1,9 @@
 -- What the inner functions are lent, and what they leave in it.
-use mathlib.Core.List.{List, _++_}
-use Prim.Native.Nat.{ℕ, zero, suc, _-_, _≤_}
-use lib.ListN.{length, drop}
+use mathlib.Core.List.{List}
+use Prim.Native.Nat.{ℕ, zero, suc, _≤_}
+use lib.ListN.{length}
 use Rattle.answers.specs.Outcome.{limit}
-use Rattle.periods.specs.Period.{part, prefixPeriods}
+use Rattle.periods.specs.Period.{part, unitsTable}
 
 -- the word is within the limit, and there is a place for the unit of each of its prefixes
 abbrev pub Scratch : List ℕ → List ℕ → Type 0
@@ -11,7 +11,7 @@ Scratch w units = (length w ≤ limit) × (length w ≤ length units)
 
 -- the table of units after the runs that start after boundary a were looked for
 abbrev pub unitsAt : List ℕ → ℕ → List ℕ → List ℕ
-unitsAt w a u = prefixPeriods (part w a (length w)) (length w - a) ++ drop (length w - a) u
+unitsAt w a u = unitsTable (part w a (length w)) u
 
 -- the same after the boundaries below a
 unfoldable pub unitsBefore : List ℕ → ℕ → List ℕ → List ℕ

@@ -35,27 +35,6 @@ fn smallest_period(part: &[u8]) -> usize {
     }
 }
 
-pub fn part(w: &[u8], edition: u32, first: u32, last: u32) -> Answer<[u32; 4]> {
-    let n = w.len();
-    if LIMIT < n {
-        return Err((1, 0));
-    }
-    let turns = turns_of(edition)?;
-    let end = last as usize;
-    if first < 1 || n < end || last < first {
-        return Err((6, 0));
-    }
-    let start = first as usize - 1;
-    let unit = smallest_period(&w[start..end]);
-    let len = end - start;
-    Ok([
-        unit as u32,
-        (len / unit) as u32,
-        (len % unit) as u32,
-        (turns * unit <= len) as u32,
-    ])
-}
-
 fn units(part: &[u8], table: &mut [u32]) {
     let n = part.len();
     if n == 0 {
@@ -78,6 +57,31 @@ fn units(part: &[u8], table: &mut [u32]) {
         table[m] = d as u32;
         m += 1;
     }
+}
+
+pub fn part(w: &[u8], edition: u32, first: u32, last: u32, table: &mut [u32]) -> Answer<[u32; 4]> {
+    let n = w.len();
+    if LIMIT < n {
+        return Err((1, 0));
+    }
+    let turns = turns_of(edition)?;
+    let end = last as usize;
+    if first < 1 || n < end || last < first {
+        return Err((6, 0));
+    }
+    let start = first as usize - 1;
+    let len = end - start;
+    if table.len() < len {
+        return Err((7, 0));
+    }
+    units(&w[start..end], table);
+    let unit = table[len - 1] as usize;
+    Ok([
+        unit as u32,
+        (len / unit) as u32,
+        (len % unit) as u32,
+        (turns * unit <= len) as u32,
+    ])
 }
 
 fn store(table: &mut [u32], at: usize, value: u32) {

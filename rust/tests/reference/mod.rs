@@ -1,9 +1,10 @@
 //! What every call answers, written from the definitions alone and apart from the library.
 //!
 //! The functions named `plain_..` are the definitions themselves, by trying everything; they serve
-//! short words. The others are faster and of another kind than the library's own (borders instead of
-//! the recurrence of periods, runs by period instead of by first position, each boundary looking
-//! back instead of offering forward); the test holds them to the plain ones on every short word.
+//! short words. The others are faster and of another kind than the library's own (borders, or how far
+//! each distance reaches, instead of the recurrence of periods; runs by period instead of by first
+//! position; each boundary looking back instead of offering forward); the test holds them to the
+//! plain ones on every short word.
 
 pub const LIMIT: usize = 4096;
 pub const NONE: u32 = u32::MAX;
@@ -70,6 +71,18 @@ fn borders(part: &[u8]) -> Vec<usize> {
 /// The length without the longest border is the smallest period.
 pub fn unit(part: &[u8]) -> usize {
     part.len() - borders(part)[part.len() - 1]
+}
+
+/// The unit of each leading part but the empty one. A distance is a period of those that are at least
+/// as long, as far as no two symbols so far apart differ; the first to reach one is its unit.
+pub fn units(part: &[u8]) -> Vec<u32> {
+    let mut units = Vec::new();
+    for p in 1..=part.len() {
+        let pairs = part.iter().zip(&part[p..]);
+        let reach = p + pairs.take_while(|(a, b)| a == b).count();
+        units.resize(reach.max(units.len()), p as u32);
+    }
+    units
 }
 
 fn is_block(part: &[u8], turns: usize) -> bool {
@@ -321,23 +334,30 @@ pub fn plain_paths(runs: &[Run], turns: usize, n: usize, target: usize) -> Vec<V
 
 // ---- the calls: the outcome, and what an accepted answer writes at the front of its table
 
-pub fn part_call(w: &[u8], edition: u32, first: u32, last: u32) -> Outcome {
+pub fn part_call(
+    w: &[u8],
+    edition: u32,
+    first: u32,
+    last: u32,
+    places: usize,
+) -> (Outcome, Vec<u32>) {
     let turns = match turns_for(w, edition) {
         Ok(turns) => turns,
-        Err(outcome) => return outcome,
+        Err(outcome) => return (outcome, vec![]),
     };
     if first < 1 || last as usize > w.len() || first > last {
-        return refused(6);
+        return (refused(6), vec![]);
     }
     let part = &w[first as usize - 1..last as usize];
-    let p = unit(part);
-    let block = part.len() >= turns * p;
-    Accepted(vec![
-        p as u32,
-        (part.len() / p) as u32,
-        (part.len() % p) as u32,
-        block as u32,
-    ])
+    if places < part.len() {
+        return (refused(7), vec![]);
+    }
+    let units = units(part);
+    let unit = units[part.len() - 1];
+    let length = part.len() as u32;
+    let block = length >= turns as u32 * unit;
+    let values = vec![unit, length / unit, length % unit, block as u32];
+    (Accepted(values), units)
 }
 
 pub fn runs_call(w: &[u8], runs: &[Run], places: usize) -> (Outcome, Vec<u32>) {

@@ -11,13 +11,16 @@ part-requires c κs = search needs
 hand-over-part-requires : tie.Need-hand-over-part-requires
 hand-over-part-requires c κs = search needs
 
+same-length : tie.Need-same-length
+same-length c = search needs
+
 returns : tie.Need-returns
 returns c =
-    let f = c .before .before .before .before .before .before .part .ensures in
+    let f = c .before .before .before .before .before .before .before .before .part .ensures in
     let h = c .hand-over-part .ensures in
     let v = h .1 .1 in
     let e = f .0 in
-    (h .0 ∙ ap resultOf e, (h .1 .0 ∙ ap (valueOf 0) e, (v .0 ∙ ap (valueOf 1) e, (v .1 .0 ∙ ap (valueOf 2) e, (v .1 .1 .0 ∙ ap (valueOf 3) e, (v .1 .1 .1 ∙ ap indexOf e, rw (sym e) (f .1)))))))
+    (h .0 ∙ ap resultOf e, (h .1 .0 ∙ ap (valueOf 0) e, (v .0 ∙ ap (valueOf 1) e, (v .1 .0 ∙ ap (valueOf 2) e, (v .1 .1 .0 ∙ ap (valueOf 3) e, (v .1 .1 .1 ∙ ap indexOf e, (f .1 .0, rw (sym e) (f .1 .1))))))))
 
 pub cegridom-part-spec : {M : Type 1} → statement M
-cegridom-part-spec = tie.close (tie.spec part-requires hand-over-part-requires returns)
+cegridom-part-spec = tie.close (tie.spec part-requires hand-over-part-requires same-length returns)

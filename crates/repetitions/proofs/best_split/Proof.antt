@@ -1,14 +1,11 @@
 -- `repetitions::best_split` meets its contract: each way out is the case of the definitions that its tests lead to, and `best-means` says what that means.
 -- Assumes nothing.
-use mathlib.Core.Path.{sym, ap, _∙_}
-use Prim.Native.Nat.{ℕ}
+use mathlib.Core.Path.{sym, _∙_}
 use native.Mathlib.Omega.{arith}
 use borrow.Author.Needs.{needs}
-use lib.ListN.{length}
 use Rattle.laws.proofs.OneOrTwo.{one-or-two, one-or-two-bounds}
 use Rattle.periods.specs.Edition.{Edition}
-use Rattle.periods.proofs.Editions.{turns-given, edition-by-test, no-edition-by-test}
-use Rattle.repetitions.specs.BestSplit.{sizeOutcome, lastCell, settledEnds, settledWork}
+use Rattle.periods.proofs.Editions.{edition-by-test, no-edition-by-test}
 use Rattle.repetitions.proofs.BestClaims.{promised-long, promised-bad-edition, promised-bad-choice, promised-short, promised-settled, best-answered}
 use Rattle.repetitions.proofs.best_split.Statement.{statement}
 use Rattle.repetitions.proofs.best_split.Tie as tie
@@ -53,12 +50,8 @@ returns-5 c =
     best-answered (g .w .now) (g .edition) (g .choice) (g .ends .now) (g .work .now) _ _ _
     (promised-short (g .w .now) (g .edition) (g .choice) (g .ends .now) (g .work .now) (omega arith) (known (c .before .before .before)) (one-or-two (g .choice) (omega arith) (omega arith)) (c .if5 .taken))
 
-turns-requires : tie.Need-turns-requires
-turns-requires c κs = search needs
-
 settle-requires : tie.Need-settle-requires
-settle-requires c κs =
-    ((omega arith, omega arith), turns-given (c .before .before .before .before .before .before .before .before .before .before .before .before .args .edition) _ (c .before .before .turns .ensures))
+settle-requires c κs = ((omega arith, omega arith), known (c .before .before .before .before .before))
 
 same-length : tie.Need-same-length
 same-length c = search needs
@@ -68,16 +61,11 @@ same-length-2 c = search needs
 
 returns-6 : tie.Need-returns-6
 returns-6 c =
-    let g = c .before .before .before .before .before .before .before .before .before .before .before .before .before .before .before .before .before .args in
+    let g = c .before .before .before .before .before .before .before .before .before .before .before .before .before .before .before .before .args in
     let s = c .before .before .before .before .settle .ensures in
-    let k = c .before .before .before .before .before .before .before .turns .ensures in
-    let P = promised-settled (g .w .now) (g .edition) (g .choice) (g .ends .now) (g .work .now) (omega arith) (known (c .before .before .before .before .before .before .before .before .before .before .before)) (one-or-two (g .choice) (omega arith) (omega arith)) (omega arith) in
+    let P = promised-settled (g .w .now) (g .edition) (g .choice) (g .ends .now) (g .work .now) (omega arith) (known (c .before .before .before .before .before .before .before .before .before .before)) (one-or-two (g .choice) (omega arith) (omega arith)) (omega arith) in
     best-answered (g .w .now) (g .edition) (g .choice) (g .ends .now) (g .work .now) _ _ _
-    record {
-      answer = s .0 ∙ ap (λ (x : ℕ). sizeOutcome (lastCell x (g .w .now) (g .choice)) (length (g .ends .now))) k ∙ P .answer;
-      ends = s .1 .0 ∙ ap (λ (x : ℕ). settledEnds x (g .w .now) (g .choice) (g .ends .now)) k ∙ P .ends;
-      work = s .1 .1 ∙ ap (λ (x : ℕ). settledWork x (g .w .now) (g .choice) (g .work .now)) k ∙ P .work;
-    }
+    record { answer = s .0 ∙ P .answer; ends = s .1 .0 ∙ P .ends; work = s .1 .1 ∙ P .work }
 
 pub best-split-spec : {M : Type 1} → statement M
 best-split-spec =
@@ -91,7 +79,6 @@ best-split-spec =
     add-if5
     mul-if5
     returns-5
-    turns-requires
     settle-requires
     same-length
     same-length-2

@@ -4,42 +4,49 @@ use mathlib.Core.List.{List}
 use Prim.Native.Nat.{ℕ, _+_, _-_, _*_, _<_, _≤_}
 use native.Mathlib.Omega.{arith}
 use borrow.Author.Needs.{needs}
-use lib.ListN.{length, getD, drop, length-take, length-drop}
+use lib.ListN.{length, getD, drop}
+use Rattle.periods.specs.Period.{anyPeriod}
+use Rattle.periods.specs.Part.{partTable}
+use Rattle.periods.proofs.Editions.{turns-given}
 use Rattle.factors.specs.Factorization.{Choice, choiceOf}
-use Rattle.factors.specs.Table.{rows, spread}
+use Rattle.factors.specs.Table.{rows, spread, filled}
 use Rattle.factors.proofs.Lent.{lent, lent-length}
+use Rattle.repetitions.specs.Block.{block?}
 use Rattle.repetitions.specs.Fill.{placeOfUnit}
-use Rattle.repetitions.proofs.FillLaws.{second, third, fourth, Filling, zeros-length, begun, begun-from, begun-long, begun-kept, filling-starts, filling-skips, laid-from, laid-long, laid-rises, filling-spreads, filling-done}
+use Rattle.repetitions.proofs.FillLaws.{second, third, fourth, Filling, zeros-length, begun, begun-from, begun-long, begun-kept, filling-starts, filling-skips, rowTwo, laid, laid-from, laid-long, laid-rises, filling-spreads, filling-done}
 use Rattle.repetitions.proofs.inner.fill.Statement.{statement}
 use Rattle.repetitions.proofs.inner.fill.Tie as tie
 
 abbrev Inv-loop : tie.InvT-loop
-Inv-loop w turns choice work₀ n row two three j₀ work j = (j ≤ n) × Filling turns (choiceOf choice) w work₀ j work
+Inv-loop w edition choice work₀ n row two three turns j₀ work j = (j ≤ n) × Filling turns (choiceOf choice) w work₀ j work
 
 abbrev μ-loop : tie.MeasureT-loop
-μ-loop w turns choice work₀ n row two three j₀ work j = n - j
+μ-loop w edition choice work₀ n row two three turns j₀ work j = n - j
 
 -- in a turn of the loop: the arguments, and the table when the loop began
 abbrev Turn : Type 0
 Turn = tie.At-loop Inv-loop μ-loop
 
 abbrev word : Turn → List ℕ
-word c = c .before .before .before .before .before .before .before .before .before .before .before .args .w .now
+word c = c .before .before .before .before .before .before .before .before .before .before .before .before .args .w .now
 
 abbrev chosen : Turn → Choice
-chosen c = choiceOf (c .before .before .before .before .before .before .before .before .before .before .before .args .choice)
+chosen c = choiceOf (c .before .before .before .before .before .before .before .before .before .before .before .before .args .choice)
+
+abbrev edition-given : Turn → ℕ
+edition-given c = c .before .before .before .before .before .before .before .before .before .before .before .before .args .edition
 
 abbrev turns : Turn → ℕ
-turns c = c .before .before .before .before .before .before .before .before .before .before .before .args .turns
+turns c = c .before .turns .result
 
 abbrev entered : Turn → List ℕ
-entered c = c .before .before .before .before .before .before .before .before .before .before .before .args .work .now
+entered c = c .before .before .before .before .before .before .before .before .before .before .before .before .args .work .now
 
 abbrev first : Turn → List ℕ
-first c = lent (c .before .before .before .before .before .before .before .start .last .0) (length (word c) + 1) (second (length (word c))) (c .before .before .before .clear .last .0)
+first c = lent (c .before .before .before .before .before .before .before .before .start .last .0) (length (word c) + 1) (second (length (word c))) (c .before .before .before .before .clear .last .0)
 
 first-is : (c : Turn) → first c ≡ begun (word c) (entered c)
-first-is c = begun-from (word c) (entered c) _ _ (c .before .before .before .before .before .before .before .start .ensures) (c .before .before .before .clear .ensures)
+first-is c = begun-from (word c) (entered c) _ _ (c .before .before .before .before .before .before .before .before .start .ensures) (c .before .before .before .before .clear .ensures)
 
 -- the table keeps its length
 long : (c : Turn) → length (c .loop .work) ≡ length (entered c)
@@ -76,12 +83,16 @@ part-clear-end c = search needs
 clear-requires : tie.Need-clear-requires Inv-loop μ-loop
 clear-requires c κs = search needs
 
+turns-requires : tie.Need-turns-requires Inv-loop μ-loop
+turns-requires c κs = search needs
+
 loop-holds : tie.Need-loop-holds Inv-loop μ-loop
 loop-holds c =
-    let g = c .before .before .before .before .before .before .before .before .before .before .args in (
+    let g = c .before .before .before .before .before .before .before .before .before .before .before .args in
+    let k = c .turns .result in (
       omega arith,
-      subst (λ (x : List ℕ). Filling (g .turns) (choiceOf (g .choice)) (g .w .now) x 0 x)
-          (sym (begun-from (g .w .now) (g .work .now) _ _ (c .before .before .before .before .before .before .start .ensures) (c .before .before .clear .ensures))) (filling-starts (g .turns) (choiceOf (g .choice)) (g .w .now) (g .work .now) (omega arith)),
+      subst (λ (x : List ℕ). Filling k (choiceOf (g .choice)) (g .w .now) x 0 x)
+          (sym (begun-from (g .w .now) (g .work .now) _ _ (c .before .before .before .before .before .before .before .start .ensures) (c .before .before .before .clear .ensures))) (filling-starts k (choiceOf (g .choice)) (g .w .now) (g .work .now) (omega arith)),
     )
 
 mul-size : tie.Need-mul-size Inv-loop μ-loop
@@ -101,60 +112,53 @@ loop-again c =
     let t = c .before .before .before in
     (omega arith, filling-skips (turns t) (chosen t) (word t) _ _ _ (t .loop .inv .1) (room t) (omega arith) (c .if1 .taken))
 
-sub-units : tie.Need-sub-units Inv-loop μ-loop
-sub-units c = omega arith
+add-part : tie.Need-add-part Inv-loop μ-loop
+add-part c = omega arith
 
-part-units-start : tie.Need-part-units-start Inv-loop μ-loop
-part-units-start c = search needs
+cast-part : tie.Need-cast-part Inv-loop μ-loop
+cast-part c = omega arith
 
-part-units-end : tie.Need-part-units-end Inv-loop μ-loop
-part-units-end c = search needs
+cast-part-2 : tie.Need-cast-part-2 Inv-loop μ-loop
+cast-part-2 c = omega arith
 
-mul-units : tie.Need-mul-units Inv-loop μ-loop
-mul-units c = omega arith
+mul-part : tie.Need-mul-part Inv-loop μ-loop
+mul-part c = omega arith
 
-sub-units-2 : tie.Need-sub-units-2 Inv-loop μ-loop
-sub-units-2 c = omega arith
+sub-part : tie.Need-sub-part Inv-loop μ-loop
+sub-part c = omega arith
 
-part-units-start-2 : tie.Need-part-units-start-2 Inv-loop μ-loop
-part-units-start-2 c = search needs
+part-part-start : tie.Need-part-part-start Inv-loop μ-loop
+part-part-start c = search needs
 
-part-units-end-2 : tie.Need-part-units-end-2 Inv-loop μ-loop
-part-units-end-2 c = search needs
+part-part-end : tie.Need-part-part-end Inv-loop μ-loop
+part-part-end c = search needs
 
-units-requires : tie.Need-units-requires Inv-loop μ-loop
-units-requires c κs =
-    let t = c .before .before .before .before .before in
-    let n = length (word t) in
-    let j = t .loop .j in (
-      omega (
-        arith,
-        long t,
-        length-take (n - j) (drop j (word t)),
-        length-drop j (word t),
-        length-take (third n - second n) (drop (second n) (t .loop .work)),
-        length-drop (second n) (t .loop .work),
-      ),
-      omega (arith, length-take (n - j) (drop j (word t))),
-    )
+part-requires : tie.Need-part-requires Inv-loop μ-loop
+part-requires c κs = search needs
 
 add-spread : tie.Need-add-spread Inv-loop μ-loop
 add-spread c =
-    let t = c .before .before .before .before .before .before .before .before .before in
-    omega (arith, c .before .before .before .before .before .before .if1 .left, c .before .before .before .before .before .before .before .slice-known4 .given (t .loop .j))
+    let t = c .before .before .before .before .before .before .before .before in
+    omega (arith, c .before .before .before .before .before .if1 .left, c .before .before .before .before .before .before .slice-known4 .given (t .loop .j))
+
+-- the table that is spread over: the units of what follows the boundary stand in row 2
+laid-by : (t : Turn) (u : List ℕ) → t .loop .j < length (word t)
+    → u ≡ partTable (word t) (edition-given t) (t .loop .j + 1) (length (word t)) (rowTwo (word t) (t .loop .work))
+    → lent (t .loop .work) (second (length (word t))) (third (length (word t))) u ≡ laid (word t) (t .loop .j) (t .loop .work)
+laid-by t u l e = laid-from (word t) (edition-given t) (t .loop .j) (t .loop .work) u (omega arith) (t .before .before .before .before .before .before .before .before .before .before .before .before .pre .1) l (omega (arith, long t)) e
 
 spread-requires : tie.Need-spread-requires Inv-loop μ-loop
 spread-requires c κs =
-    let t = c .before .before .before .before .before .before .before .before .before in
+    let t = c .before .before .before .before .before .before .before .before in
     let n = length (word t) in
     let j = t .loop .j in
-    let e = laid-from (word t) j (t .loop .work) _ (c .before .before .before .units .ensures) in (
+    let e = laid-by t _ (omega arith) (c .before .before .before .part .ensures .1 .0) in (
       omega arith,
       omega arith,
       omega (arith, long t, ap length e, laid-long (turns t) (chosen t) (word t) _ (t .loop .work) j (t .loop .inv .1) (room t) (omega arith), room t),
       subst (λ (u : List ℕ). (d f : ℕ) → d ≤ f → f < n - j → getD u (placeOfUnit n d) 0 ≤ getD u (placeOfUnit n f) 0) (sym e)
           (laid-rises (turns t) (chosen t) (word t) _ (t .loop .work) j (t .loop .inv .1) (room t) (omega arith)),
-      t .before .before .before .before .before .before .before .before .before .before .before .pre .1,
+      turns-given (edition-given t) (turns t) (t .before .turns .ensures),
     )
 
 add-j-2 : tie.Need-add-j-2 Inv-loop μ-loop
@@ -165,11 +169,11 @@ loop-less-2 c = omega arith
 
 loop-again-2 : tie.Need-loop-again-2 Inv-loop μ-loop
 loop-again-2 c =
-    let t = c .before .before .before .before .before .before .before .before .before .before .before .before in
+    let t = c .before .before .before .before .before .before .before .before .before .before .before in
     let j = t .loop .j in
-    let e = laid-from (word t) j (t .loop .work) _ (c .before .before .before .before .before .before .units .ensures) in (
+    let e = laid-by t _ (omega arith) (c .before .before .before .before .before .before .part .ensures .1 .0) in (
       omega arith,
-      filling-spreads (turns t) (chosen t) (word t) _ (t .loop .work) j (t .loop .inv .1) (room t) (omega arith) (omega arith) (c .before .before .before .before .before .before .before .before .before .if1 .left) _ _ e (c .before .before .spread .ensures),
+      filling-spreads (turns t) (chosen t) (word t) _ (t .loop .work) j (t .loop .inv .1) (room t) (omega arith) (omega arith) (c .before .before .before .before .before .before .before .before .if1 .left) _ _ e (c .before .before .spread .ensures),
     )
 
 add-four : tie.Need-add-four Inv-loop μ-loop
@@ -208,6 +212,7 @@ returns c =
     ∙ filling-done (turns t) (chosen t) (word t) (entered t) _ (t .loop .work) (t .loop .j) (omega arith) (ap length (first-is t) ∙ begun-long (turns t) (chosen t) (word t) (entered t) (omega arith))
     (ap (drop (rows * (n + 1))) (first-is t) ∙ begun-kept (turns t) (chosen t) (word t) (entered t) (omega arith))
     e (t .loop .inv .1)
+    ∙ ap (λ (k : ℕ). filled (chosen t) (block? anyPeriod k (word t)) n (entered t)) (t .before .turns .ensures)
 
 pub fill-spec : {M : Type 1} → statement M
 fill-spec =
@@ -224,20 +229,21 @@ fill-spec =
     part-clear-start
     part-clear-end
     clear-requires
+    turns-requires
     loop-holds
     mul-size
     slice-read-size
     add-j
     loop-less
     loop-again
-    sub-units
-    part-units-start
-    part-units-end
-    mul-units
-    sub-units-2
-    part-units-start-2
-    part-units-end-2
-    units-requires
+    add-part
+    cast-part
+    cast-part-2
+    mul-part
+    sub-part
+    part-part-start
+    part-part-end
+    part-requires
     add-spread
     spread-requires
     add-j-2

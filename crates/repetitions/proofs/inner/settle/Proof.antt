@@ -5,6 +5,7 @@ use native.Mathlib.Omega.{arith}
 use borrow.Author.Needs.{needs}
 use lib.ListN.{length}
 use Rattle.periods.specs.Period.{anyPeriod}
+use Rattle.periods.specs.Edition.{turnsOf}
 use Rattle.factors.specs.Factorization.{choiceOf}
 use Rattle.repetitions.specs.Block.{block?}
 use Rattle.repetitions.proofs.BestClaims.{filled-long, given-linked, given-outcome, given-ends, given-cleared}
@@ -19,8 +20,8 @@ hand-out-requires c κs =
     let g = c .before .before .before .before .before .before .before .before .before .args in
     let e = c .before .before .before .before .fill .ensures in (
       omega arith,
-      omega (arith, ap length e, filled-long (choiceOf (g .choice)) (block? anyPeriod (g .turns) (g .w .now)) (length (g .w .now)) (g .work .now) (omega arith)),
-      given-linked (choiceOf (g .choice)) (block? anyPeriod (g .turns) (g .w .now)) (length (g .w .now)) (g .work .now) _ e (omega arith),
+      omega (arith, ap length e, filled-long (choiceOf (g .choice)) (block? anyPeriod (turnsOf (g .edition)) (g .w .now)) (length (g .w .now)) (g .work .now) (omega arith)),
+      given-linked (choiceOf (g .choice)) (block? anyPeriod (turnsOf (g .edition)) (g .w .now)) (length (g .w .now)) (g .work .now) _ e (omega arith),
     )
 
 add-row : tie.Need-add-row
@@ -55,10 +56,10 @@ returns c =
     let g = c .before .before .before .before .before .before .before .before .before .before .before .before .before .before .before .before .args in
     let e = c .before .before .before .before .before .before .before .before .before .before .before .fill .ensures in
     let h = c .before .before .before .before .before .before .hand-out .ensures in (
-      h .0 ∙ given-outcome (choiceOf (g .choice)) (block? anyPeriod (g .turns) (g .w .now)) (length (g .w .now)) (g .work .now) _ e (omega arith) (length (g .ends .now)),
+      h .0 ∙ given-outcome (choiceOf (g .choice)) (block? anyPeriod (turnsOf (g .edition)) (g .w .now)) (length (g .w .now)) (g .work .now) _ e (omega arith) (length (g .ends .now)),
       (
-        h .1 ∙ given-ends (choiceOf (g .choice)) (block? anyPeriod (g .turns) (g .w .now)) (length (g .w .now)) (g .work .now) _ e (omega arith) (g .ends .now),
-        given-cleared (choiceOf (g .choice)) (block? anyPeriod (g .turns) (g .w .now)) (length (g .w .now)) (g .work .now) _ e (omega arith) _ (c .before .before .clear .ensures) (omega arith),
+        h .1 ∙ given-ends (choiceOf (g .choice)) (block? anyPeriod (turnsOf (g .edition)) (g .w .now)) (length (g .w .now)) (g .work .now) _ e (omega arith) (g .ends .now),
+        given-cleared (choiceOf (g .choice)) (block? anyPeriod (turnsOf (g .edition)) (g .w .now)) (length (g .w .now)) (g .work .now) _ e (omega arith) _ (c .before .before .clear .ensures) (omega arith),
       ),
     )
 

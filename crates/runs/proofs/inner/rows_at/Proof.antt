@@ -12,7 +12,8 @@ use Rattle.runs.specs.declared.Record.{Record}
 use Rattle.runs.specs.Table.{rowsAt, stride, flat}
 use Rattle.runs.specs.Inner.{unitsAt}
 use Rattle.periods.proofs.Claims.{part-smallest}
-use Rattle.runs.proofs.Rows.{part-long, units-left, units-place, rows-none, rows-skip, rows-add, rows-at-most, put-rows}
+use Rattle.periods.proofs.UnitsTable.{units-of-part}
+use Rattle.runs.proofs.Rows.{part-long, rows-none, rows-skip, rows-add, rows-at-most, put-rows}
 use Rattle.runs.proofs.inner.rows_at.Statement.{statement}
 use Rattle.runs.proofs.inner.rows_at.Tie as tie
 
@@ -49,14 +50,14 @@ abbrev place : Turn → ℕ
 place c = c .loop .b - start c - 1
 
 units-are : (c : Turn) → found c ≡ unitsAt (word c) (start c) (scratch c)
-units-are c = c .before .before .before .units .ensures ∙ units-left (word c) (scratch c) (start c)
+units-are c = c .before .before .before .units .ensures .1
 
 units-length : (c : Turn) → length (found c) ≡ length (scratch c)
 units-length c = c .before .before .before .units .kept .1 .0
 
 -- what is read is the smallest period of that part
 unit-read : (c : Turn) → start c < c .loop .b → c .loop .b ≤ length (word c) → getD (found c) (place c) 0 ≡ smallestPeriod (part (word c) (start c) (c .loop .b))
-unit-read c h k = ap (λ (u : List ℕ). getD u (place c) 0) (units-are c) ∙ units-place (word c) (scratch c) (start c) (c .loop .b) h k
+unit-read c h k = ap (λ (u : List ℕ). getD u (place c) 0) (units-are c) ∙ units-of-part (word c) (scratch c) (start c) (c .loop .b) h k
 
 -- it is at most the length of the part
 unit-bound : (c : Turn) → start c < c .loop .b → c .loop .b ≤ length (word c) → getD (found c) (place c) 0 ≤ c .loop .b
