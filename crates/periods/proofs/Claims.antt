@@ -117,7 +117,7 @@ prefix-periods-rise s m n a b c = go (decLe (smallestPeriod (take n s)) m)
 pub prefix-periods-length : (s : List ℕ) (m : ℕ) → length (prefixPeriods s m) ≡ m
 unfolding prefixPeriods
 prefix-periods-length s zero = refl
-prefix-periods-length s (suc m) = length-append (prefixPeriods s m) (smallestPeriod (take (suc m) s) ∷ []) ∙ omega (arith, prefix-periods-length s m)
+prefix-periods-length s (suc m) = length-append (prefixPeriods s m) _ ∙ omega (arith, prefix-periods-length s m)
 
 pub prefix-periods-at : (s : List ℕ) (m i : ℕ) → i < m → getD (prefixPeriods s m) i 0 ≡ smallestPeriod (take (suc i) s)
 unfolding prefixPeriods
