@@ -28,8 +28,8 @@ unfoldable pub description : ℕ → List ℕ → List ℕ
 description k s =
     smallestPeriod s ∷ length s / smallestPeriod s ∷ length s % smallestPeriod s ∷ flag (repetition? anyPeriod k s) ∷ []
 
--- "1: n above 4,096." "12, an edition other than 1 or 2" "6: first below 1, last above n or first above last" "7: fewer output places than the answer needs":
--- one for each length up to last − first + 1. One of these is met, or the part is described; so many places are lent.
+-- "1: n above 4,096." "12, an edition other than 1 or 2" "6: first below 1, last above n or first above last" "7: fewer output places ... than the answer
+-- needs", which are one for each length from 1 to last − first + 1. One of these is met, or the part is described; so many places are lent.
 abbrev pub testedPart : {A : Type 0} → List ℕ → ℕ → ℕ → ℕ → ℕ → A → A → A → A → A → A
 testedPart w edition first last places long unknown outside few described =
     cond (ltb limit (length w)) long
@@ -60,7 +60,8 @@ pub record Describes (k : ℕ) (s : List ℕ) (period exponent remainder block :
   pub flagged : block ≤ 1
   pub is-block : (block ≡ 1) ↔ Repetition anyPeriod k s
 
--- each place is the unit of that leading part as a word of its own, and the unit answered, u, "is the last of them"; t and x are the table at entry and at exit
+-- each place is the unit of that leading part as a word of its own, and the unit answered, u, "is the last of them"; t and x are the table at entry and
+-- at exit
 pub record Grows (s t x : List ℕ) (u : ℕ) : Type 0 where
   pub units : (m : ℕ) → 1 ≤ m → m ≤ length s → SmallestPeriod (take m s) (getD x (m - 1) 0)
   pub last : getD x (length s - 1) 0 ≡ u
@@ -75,6 +76,6 @@ pub data PartMeaning (w : List ℕ) (edition first last : ℕ) (t : List ℕ) (o
       length w ≤ limit → Edition edition → Within w first last → length t < last - first + 1 → o ≡ refused 7 0 → x ≡ t
       → PartMeaning w edition first last t o x
   described :
-      length w ≤ limit → Edition edition → Within w first last → last - first + 1 ≤ length t → (u k r b : ℕ)
-      → Describes (turnsOf edition) (part w (first - 1) last) u k r b → o ≡ accepted (u ∷ k ∷ r ∷ b ∷ []) → Grows (part w (first - 1) last) t x u
+      length w ≤ limit → Edition edition → Within w first last → last - first + 1 ≤ length t → (u q r b : ℕ)
+      → Describes (turnsOf edition) (part w (first - 1) last) u q r b → o ≡ accepted (u ∷ q ∷ r ∷ b ∷ []) → Grows (part w (first - 1) last) t x u
       → PartMeaning w edition first last t o x

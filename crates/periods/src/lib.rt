@@ -54,8 +54,9 @@ pub fn turns(edition: u32) -> usize
     SECOND_TURNS
 }
 
-// The unit of the part that is lent; 0 for an empty one. Time: the product of the part's length
-// and its unit at most; no stack.
+// The unit of the part that is lent; 0 for an empty one. It needs no table, for callers that have
+// none to lend; inner::units is linear. Time: the product of the part's length and its unit at
+// most; no stack.
 pub fn smallest_period(part: &[u8]) -> usize
     ensures { λ r. ⌜ r ≡ smallestPeriod (now (part .entry)) ⌝ }
 {
