@@ -3,12 +3,12 @@
 use mathlib.Core.Path.{_≡_, refl, sym, ap, _∙_, subst}
 use mathlib.Core.Bool.{true, false}
 use mathlib.Core.List.{List, _++_, append-assoc}
-use Prim.Native.Nat.{ℕ, suc, _+_, _-_, _*_, _≤_, _<_}
+use Prim.Native.Nat.{ℕ, _+_, _-_, _*_, _≤_, _<_}
 use native.Mathlib.Omega.{arith}
 use native.Mathlib.Numerals.{add-one}
 use borrow.Author.Tests.{le-leb, lt-leb}
 use lib.Dec.{leb}
-use lib.ListN.{length, getD, take, drop, replicate, length-take, length-drop, length-append, length-replicate, getD-replicate, List·getD-append}
+use lib.ListN.{length, getD, take, drop, replicate, length-take, length-drop, length-replicate, getD-replicate}
 use lib.Seq.{take-take, drop-drop}
 use Rattle.answers.specs.Outcome.{limit}
 use Rattle.periods.specs.Period.{part, smallestPeriod, repetition?, anyPeriod, unitsTable}
@@ -49,17 +49,6 @@ zeros t a b = replicate (length (take (b - a) (drop a t))) 0
 pub zeros-length : (t : List ℕ) (a b : ℕ) → b ≤ length t → length (zeros t a b) ≡ b - a
 zeros-length t a b h = length-replicate (length (take (b - a) (drop a t))) 0 ∙ length-take (b - a) (drop a t) ∙ omega (arith, length-drop a t)
 
--- the units of the parts after boundary j, as the part call leaves them in row 2
-abbrev pub unitsRow : List ℕ → ℕ → List ℕ → List ℕ
-unitsRow w j r = unitsTable (part w j (length w)) r
-
-module _ (w : List ℕ) (j : ℕ) (r : List ℕ) where
-  units-row-length : length w - j ≤ length r → length (unitsRow w j r) ≡ length r
-  units-row-length h = units-length (part w j (length w)) r (omega (arith, placed-part w j (length w) (omega arith) .long))
-
-  units-row-at : (d : ℕ) → j + d < length w → getD (unitsRow w j r) d 0 ≡ smallestPeriod (part w j (j + (d + 1)))
-  units-row-at d h = let e : j + (d + 1) - j - 1 ≡ d = omega arith in rw e at (units-of-part w r j (j + (d + 1)) (omega arith) (omega arith))
-
 -- the smallest periods of longer parts after a boundary are not smaller
 parts-rise : (w : List ℕ) (j a b : ℕ) → a ≤ b → j + b < length w → smallestPeriod (part w j (j + (a + 1))) ≤ smallestPeriod (part w j (j + (b + 1)))
 parts-rise w j a b h k =
@@ -82,9 +71,23 @@ rowTwo w t = take (third (length w) - second (length w)) (drop (second (length w
 row-two-long : (w t : List ℕ) → rows * (length w + 1) ≤ length t → length (rowTwo w t) ≡ third (length w) - second (length w)
 row-two-long w t room = length-take (third (length w) - second (length w)) (drop (second (length w)) t) ∙ omega (arith, length-drop (second (length w)) t)
 
+-- the same once the part call has written the units of what follows boundary j to it
+abbrev pub unitsRow : List ℕ → ℕ → List ℕ → List ℕ
+unitsRow w j t = unitsTable (part w j (length w)) (rowTwo w t)
+
+units-row-long : (w : List ℕ) (j : ℕ) (t : List ℕ) → rows * (length w + 1) ≤ length t → length (unitsRow w j t) ≡ third (length w) - second (length w)
+units-row-long w j t room =
+    let l = row-two-long w t room in
+    units-length (part w j (length w)) (rowTwo w t) (omega (arith, placed-part w j (length w) (omega arith) .long)) ∙ l
+
+units-row-at : (w : List ℕ) (j : ℕ) (t : List ℕ) (d : ℕ) → j + d < length w → getD (unitsRow w j t) d 0 ≡ smallestPeriod (part w j (j + (d + 1)))
+units-row-at w j t d h =
+    let e : j + (d + 1) - j - 1 ≡ d = omega arith in
+    rw e at (units-of-part w (rowTwo w t) j (j + (d + 1)) (omega arith) (omega arith))
+
 -- a table with these units in row 2
 pub laid : List ℕ → ℕ → List ℕ → List ℕ
-laid w j t = lent t (second (length w)) (third (length w)) (unitsRow w j (rowTwo w t))
+laid w j t = lent t (second (length w)) (third (length w)) (unitsRow w j t)
 
 -- as the part call, which was lent row 2, leaves the table
 pub laid-from : (w : List ℕ) (edition j : ℕ) (t u : List ℕ) → length w ≤ limit → Edition edition → j < length w → rows * (length w + 1) ≤ length t
@@ -154,16 +157,13 @@ module _ (k : ℕ) (c : Choice) (w : List ℕ) where
     filling-skips e =
         rw (add-one j) record { scanned = scanned-skip c (block? anyPeriod k w) (length w) j t (omega arith) e (F .scanned); long = F .long; kept = F .kept }
 
-    row-long : length (rowTwo w t) ≡ third (length w) - second (length w)
-    row-long = row-two-long w t (omega (arith, F .long))
-
-    units-fit : length (unitsRow w j (rowTwo w t)) ≡ third (length w) - second (length w)
-    units-fit = units-row-length w j (rowTwo w t) (omega (arith, row-long)) ∙ row-long
+    units-fit : length (unitsRow w j t) ≡ third (length w) - second (length w)
+    units-fit = units-row-long w j t (omega (arith, F .long))
 
     pub laid-long : length (laid w j t) ≡ length t₀
     unfolding laid
     laid-long =
-        lent-length t (second (length w)) (third (length w)) (unitsRow w j (rowTwo w t))
+        lent-length t (second (length w)) (third (length w)) (unitsRow w j t)
         (omega arith) (omega (arith, F .long)) units-fit
         ∙ F .long
 
@@ -171,10 +171,10 @@ module _ (k : ℕ) (c : Choice) (w : List ℕ) where
     unfolding laid
     laid-unit d h =
         let e : placeOfUnit (length w) d - second (length w) ≡ d = omega arith in
-        lent-within t (second (length w)) (third (length w)) (unitsRow w j (rowTwo w t))
+        lent-within t (second (length w)) (third (length w)) (unitsRow w j t)
         (omega arith) (omega (arith, F .long)) units-fit (placeOfUnit (length w) d) (omega arith) (omega arith)
-        ∙ ap (λ (x : ℕ). getD (unitsRow w j (rowTwo w t)) x 0) e
-        ∙ units-row-at w j (rowTwo w t) d h
+        ∙ ap (λ (x : ℕ). getD (unitsRow w j t) x 0) e
+        ∙ units-row-at w j t d h
 
     pub laid-rises : (d e : ℕ) → d ≤ e → e < length w - j → getD (laid w j t) (placeOfUnit (length w) d) 0 ≤ getD (laid w j t) (placeOfUnit (length w) e) 0
     laid-rises d e h l = omega (arith, laid-unit d (omega arith), laid-unit e (omega arith), parts-rise w j d e h (omega arith))
@@ -182,7 +182,7 @@ module _ (k : ℕ) (c : Choice) (w : List ℕ) where
     laid-same : (i : ℕ) → i < second (length w) → getD (laid w j t) i 0 ≡ getD t i 0
     unfolding laid
     laid-same i h =
-        lent-below t (second (length w)) (third (length w)) (unitsRow w j (rowTwo w t))
+        lent-below t (second (length w)) (third (length w)) (unitsRow w j t)
         (omega arith) (omega (arith, F .long)) units-fit i h
 
     -- the test of the units decides where a block ends
@@ -210,7 +210,7 @@ module _ (k : ℕ) (c : Choice) (w : List ℕ) where
       where
         laid-kept : drop (rows * (length w + 1)) (laid w j t) ≡ drop (rows * (length w + 1)) t₀
         laid-kept =
-            lent-rest t (second (length w)) (third (length w)) (unitsRow w j (rowTwo w t))
+            lent-rest t (second (length w)) (third (length w)) (unitsRow w j t)
             (omega arith) (omega (arith, F .long)) units-fit (rows * (length w + 1)) (omega arith)
             ∙ F .kept
 

@@ -1,7 +1,7 @@
 -- `periods::part` meets its contract: each way out is the case of `partOutcome` that its tests lead to, and `part-means` says what that means. Assumes nothing.
 use mathlib.Core.Path.{_≡_, sym, ap, _∙_}
 use mathlib.Core.List.{List}
-use Prim.Native.Nat.{ℕ, _+_, _-_, _≤_}
+use Prim.Native.Nat.{ℕ, _-_, _≤_}
 use native.Mathlib.Omega.{arith}
 use native.Mathlib.Nat.{div-le-self, mod-le}
 use borrow.Author.Needs.{needs}

@@ -1,6 +1,6 @@
 -- `periods::inner::units` meets its contract: both loops keep `Upto` of proofs/Units.antt. The inner one keeps it from whatever table it held for at its start,
 -- so that it holds from the function's own. In both m + p rises and stays below 2 × length + 1. Assumes nothing.
-use mathlib.Core.Path.{_≡_, sym, _∙_}
+use mathlib.Core.Path.{sym, _∙_}
 use mathlib.Core.List.{List}
 use Prim.Native.Nat.{ℕ, _+_, _-_, _≤_, _<_}
 use native.Mathlib.Omega.{arith}
