@@ -1,14 +1,14 @@
 -- The computed smallest period is a period, and no smaller number is one; the test for a repetition decides it; the smallest periods of prefixes never fall.
 -- By what the search says of the number that it finds. Assumes nothing.
-use mathlib.Core.Path.{_≡_, refl, sym, _∙_, subst}
+use mathlib.Core.Path.{_≡_, refl, sym, ap, _∙_, subst}
 use mathlib.Core.Bool.{Bool, _&&_}
 use mathlib.Core.List.{List, [], _∷_, _++_}
 use Prim.Native.Nat.{ℕ, zero, suc, _+_, _-_, _*_, _≤_, _<_}
 use native.Mathlib.Omega.{arith}
 use native.Mathlib.Decide.{decLt, decLe}
 use lib.Dec.{T, eqb, leb, ltb, eqb→eq, eqb-refl, leb→le, le→leb, ltb→lt, lt→ltb}
-use lib.ListN.{length, getD, take, length-take, length-append, List·getD-append}
-use lib.Seq.{getD-at}
+use lib.ListN.{length, getD, take, drop, length-take, length-append, List·getD-append}
+use lib.Seq.{getD-at, take-take}
 use Rattle.laws.proofs.Tests.{and-intro, and-left, and-right}
 use Rattle.periods.specs.Period.{part, Period, SmallestPeriod, Repetition, seek, agrees, smallestPeriod, repetition?, prefixPeriods}
 use Rattle.periods.proofs.Search.{Sought, seek-sought, all-sound, all-complete}
@@ -111,6 +111,20 @@ prefix-periods-rise s m n a b c = go (decLe (smallestPeriod (take n s)) m)
     go : Dec (smallestPeriod (take n s) ≤ m) → smallestPeriod (take m s) ≤ smallestPeriod (take n s)
     go (yes l) = M .least (smallestPeriod (take n s)) (period-piece (symbol s) (N .period) (omega arith) b (omega arith))
     go (no l) = omega (arith, M .period .fits)
+
+-- a part is a prefix of what follows its first boundary
+pub part-prefix : (w : List ℕ) (a b : ℕ) → b ≤ length w → take (b - a) (part w a (length w)) ≡ part w a b
+part-prefix w a b h = take-take (b - a) (length w - a) (drop a w) (omega arith)
+
+-- so the units of the parts after a boundary never fall as the part grows
+pub part-periods-rise : (w : List ℕ) (a b c : ℕ) → a < b → b ≤ c → c ≤ length w → smallestPeriod (part w a b) ≤ smallestPeriod (part w a c)
+part-periods-rise w a b c h k l =
+    omega (
+      arith,
+      ap smallestPeriod (part-prefix w a b (omega arith)),
+      ap smallestPeriod (part-prefix w a c l),
+      prefix-periods-rise (part w a (length w)) (b - a) (c - a) (omega arith) (omega arith) (omega (arith, placed-part w a (length w) (omega arith) .long)),
+    )
 
 -- ---- the table of the smallest periods of prefixes
 

@@ -5,10 +5,10 @@ use mathlib.Core.List.{List, [], _∷_}
 use Prim.Native.Nat.{ℕ, suc, _-_, _≤_, _<_}
 use native.Mathlib.Omega.{arith}
 use lib.ListN.{length, getD, take, drop, length-drop, length-append, List·getD-append}
-use lib.Seq.{take-all, take-take, drop-at}
+use lib.Seq.{take-all, drop-at}
 use Rattle.periods.specs.Period.{part, smallestPeriod, prefixPeriods, unitsTable}
 use Rattle.periods.proofs.InPlace.{placed-part}
-use Rattle.periods.proofs.Claims.{prefix-periods-length, prefix-periods-at}
+use Rattle.periods.proofs.Claims.{part-prefix, prefix-periods-length, prefix-periods-at}
 
 module _ (s t : List ℕ) where
   pub units-length : length s ≤ length t → length (unitsTable s t) ≡ length t
@@ -40,4 +40,4 @@ pub units-of-part : (w t : List ℕ) (a b : ℕ) → a < b → b ≤ length w �
 units-of-part w t a b h k =
     let e : suc (b - a - 1) ≡ b - a = omega arith in
     units-at (part w a (length w)) t (b - a - 1) (omega (arith, placed-part w a (length w) (omega arith) .long))
-    ∙ rw e (ap smallestPeriod (take-take (b - a) (length w - a) (drop a w) (omega arith)))
+    ∙ rw e (ap smallestPeriod (part-prefix w a b k))

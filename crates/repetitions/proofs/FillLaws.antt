@@ -9,13 +9,13 @@ use native.Mathlib.Numerals.{add-one}
 use borrow.Author.Tests.{le-leb, lt-leb}
 use lib.Dec.{leb}
 use lib.ListN.{length, getD, take, drop, replicate, length-take, length-drop, length-replicate, getD-replicate}
-use lib.Seq.{take-take, drop-drop}
+use lib.Seq.{drop-drop}
 use Rattle.answers.specs.Outcome.{limit}
 use Rattle.periods.specs.Period.{part, smallestPeriod, repetition?, anyPeriod, unitsTable}
 use Rattle.periods.specs.Edition.{Edition}
 use Rattle.periods.specs.Part.{partTable}
 use Rattle.periods.proofs.InPlace.{placed-part}
-use Rattle.periods.proofs.Claims.{prefix-periods-rise}
+use Rattle.periods.proofs.Claims.{part-periods-rise}
 use Rattle.periods.proofs.UnitsTable.{units-length, units-of-part}
 use Rattle.periods.proofs.PartClaims.{repetition-any, part-described}
 use Rattle.factors.specs.Factorization.{Choice}
@@ -48,21 +48,6 @@ zeros t a b = replicate (length (take (b - a) (drop a t))) 0
 
 pub zeros-length : (t : List ℕ) (a b : ℕ) → b ≤ length t → length (zeros t a b) ≡ b - a
 zeros-length t a b h = length-replicate (length (take (b - a) (drop a t))) 0 ∙ length-take (b - a) (drop a t) ∙ omega (arith, length-drop a t)
-
--- the smallest periods of longer parts after a boundary are not smaller
-parts-rise : (w : List ℕ) (j a b : ℕ) → a ≤ b → j + b < length w → smallestPeriod (part w j (j + (a + 1))) ≤ smallestPeriod (part w j (j + (b + 1)))
-parts-rise w j a b h k =
-    let s = part w j (length w) in
-    let l : length s ≡ length w - j = placed-part w j (length w) (omega arith) .long in
-    let x : take (a + 1) s ≡ part w j (j + (a + 1)) = prefix-of a (omega arith) in
-    let y : take (b + 1) s ≡ part w j (j + (b + 1)) = prefix-of b k in
-    subst (λ (u : List ℕ). smallestPeriod u ≤ smallestPeriod (part w j (j + (b + 1)))) x
-    (subst (λ (u : List ℕ). smallestPeriod (take (a + 1) s) ≤ smallestPeriod u) y (prefix-periods-rise s (a + 1) (b + 1) (omega arith) (omega arith) (omega arith)))
-  where
-    prefix-of : (d : ℕ) → j + d < length w → take (d + 1) (part w j (length w)) ≡ part w j (j + (d + 1))
-    prefix-of d l =
-        let e : d + 1 ≡ j + (d + 1) - j = omega arith in
-        take-take (d + 1) (length w - j) (drop j w) (omega arith) ∙ ap (λ (x : ℕ). take x (drop j w)) e
 
 -- row 2 of a table
 abbrev pub rowTwo : List ℕ → List ℕ → List ℕ
@@ -177,7 +162,7 @@ module _ (k : ℕ) (c : Choice) (w : List ℕ) where
         ∙ units-row-at w j t d h
 
     pub laid-rises : (d e : ℕ) → d ≤ e → e < length w - j → getD (laid w j t) (placeOfUnit (length w) d) 0 ≤ getD (laid w j t) (placeOfUnit (length w) e) 0
-    laid-rises d e h l = omega (arith, laid-unit d (omega arith), laid-unit e (omega arith), parts-rise w j d e h (omega arith))
+    laid-rises d e h l = omega (arith, laid-unit d (omega arith), laid-unit e (omega arith), part-periods-rise w j (j + (d + 1)) (j + (e + 1)) (omega arith) (omega arith) (omega arith))
 
     laid-same : (i : ℕ) → i < second (length w) → getD (laid w j t) i 0 ≡ getD t i 0
     unfolding laid
