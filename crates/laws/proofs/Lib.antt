@@ -1,3 +1,4 @@
 pub mod Tests
 pub mod OneOrTwo
 pub mod Stores
+pub mod Pigeon

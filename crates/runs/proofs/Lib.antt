@@ -4,6 +4,8 @@ pub mod Listed
 pub mod Rows
 pub mod Records
 pub mod Number
+pub mod Roots
+pub mod Few
 pub mod CallClaims
 pub mod Determined
 pub mod Examples
