@@ -12,7 +12,7 @@ use lib.Dec.{T, leb, ltb, leb→le}
 use lib.ListN.{length, length-append}
 use lib.Seq.{append-snoc}
 use Rattle.laws.proofs.Tests.{and-intro, and-left, and-right}
-use Rattle.decimals.specs.Decimal.{zeroByte, digits, digitCount, plain, digit?, digits?, spelled, value}
+use Rattle.decimals.specs.Decimal.{zeroByte, digitsIn, digits, digitCount, plain, digit?, digits?, spelled, value}
 use Rattle.decimals.specs.Read.{numberIn}
 
 -- ---- tests
@@ -28,10 +28,14 @@ is-digit b l u = simp (le-leb zeroByte b l, le-leb b (zeroByte + 9) u)
 
 -- ---- digits
 
+-- so many as are asked for, in any base
+pub digits-in-length : (base : ℕ) (byte : ℕ → ℕ) (k x : ℕ) → length (digitsIn base byte k x) ≡ k
+unfolding digitsIn
+digits-in-length base byte zero x = refl
+digits-in-length base byte (suc k) x = omega (arith, length-append (digitsIn base byte k (x / base)) (byte (x % base) ∷ []), digits-in-length base byte k (x / base))
+
 pub digits-length : (k x : ℕ) → length (digits k x) ≡ k
-unfolding digits
-digits-length zero x = refl
-digits-length (suc k) x = omega (arith, length-append (digits k (x / 10)) ((zeroByte + x % 10) ∷ []), digits-length k (x / 10))
+digits-length k x = digits-in-length 10 (λ d. zeroByte + d) k x
 
 digits-append : (xs ys : List ℕ) → T (digits? xs) → T (digits? ys) → T (digits? (xs ++ ys))
 digits-append [] ys a b = b
@@ -39,7 +43,7 @@ digits-append (x ∷ xs) ys a b = and-intro (digit? x) (digits? (xs ++ ys)) (and
 
 -- CLAIM: what is written is digits
 pub digits-are-digits : (k x : ℕ) → T (digits? (digits k x))
-unfolding digits
+unfolding digitsIn
 digits-are-digits zero x = tt
 digits-are-digits (suc k) x =
     digits-append (digits k (x / 10)) ((zeroByte + x % 10) ∷ []) (digits-are-digits k (x / 10))
@@ -51,7 +55,7 @@ spelled-snoc a (x ∷ xs) b = spelled-snoc (a * 10 + (x - zeroByte)) xs b
 
 -- CLAIM: what is written reads as the number, if it has no more digits
 pub digits-value : (k x : ℕ) → x < 10 ^ k → value (digits k x) ≡ x
-unfolding digits
+unfolding digitsIn
 digits-value zero x h = omega arith
 digits-value (suc k) x h =
     spelled-snoc 0 (digits k (x / 10)) (zeroByte + x % 10)
@@ -59,7 +63,7 @@ digits-value (suc k) x h =
 
 -- the digits of a number and those spelled after it
 digits-spelled : (bs : List ℕ) (k x : ℕ) → T (digits? bs) → digits (k + length bs) (spelled x bs) ≡ digits k x ++ bs
-unfolding digits
+unfolding digitsIn
 digits-spelled [] k x h = ap (λ (j : ℕ). digits j x) (add-zero k) ∙ sym (append-nil (digits k x))
 digits-spelled (b ∷ bs) k x h =
     let low : zeroByte ≤ b = digit-low b (and-left (digit? b) (digits? bs) h) in
@@ -75,7 +79,7 @@ digits-spelled (b ∷ bs) k x h =
 
 -- CLAIM: the digits that spell a number are the ones that are written
 pub value-digits : (bs : List ℕ) → T (digits? bs) → digits (length bs) (value bs) ≡ bs
-unfolding digits
+unfolding digitsIn
 value-digits bs h = ap (λ (j : ℕ). digits j (value bs)) (sym (zero-add (length bs))) ∙ digits-spelled bs 0 0 h
 
 spelled-bound : (bs : List ℕ) (x : ℕ) → T (digits? bs) → spelled x bs < suc x * 10 ^ length bs

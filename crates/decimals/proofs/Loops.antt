@@ -11,9 +11,9 @@ use borrow.Author.Tests.{lt-ltb, le-ltb, lt-leb}
 use lib.Dec.{leb, ltb}
 use lib.ListN.{length, getD, set, drop, length-drop, drop-of-length-le}
 use lib.Seq.{sets, set-comm, drop-cons, getD-take, getD-drop, length-take-le}
-use Rattle.decimals.specs.Decimal.{zeroByte, digits, digitCount, digits?, spelled, field}
+use Rattle.decimals.specs.Decimal.{zeroByte, digitsIn, digitCount, digits?, spelled, field}
 use Rattle.decimals.specs.Read.{numberIn}
-use Rattle.decimals.proofs.Claims.{digits-length, is-digit, count-one, count-more}
+use Rattle.decimals.proofs.Claims.{digits-in-length, is-digit, count-one, count-more}
 
 -- ---- counting
 
@@ -65,16 +65,17 @@ sets-last (x ∷ xs) l at b =
     ∙ ap (λ (t : List ℕ). sets t (suc at) xs)
     (ap (λ (i : ℕ). set (set l at x) i b) (omega arith) ∙ set-comm l at (at + suc (length xs)) x b (λ e. omega arith))
 
--- the lowest digit is stored and the others are left
-pub write-more : (l : List ℕ) (at i x : ℕ) → sets l at (digits (suc i) x) ≡ sets (set l (at + i) (zeroByte + x % 10)) at (digits i (x / 10))
-unfolding digits
-write-more l at i x =
-    sets-last (digits i (x / 10)) l at (zeroByte + x % 10)
-    ∙ ap (λ (j : ℕ). sets (set l (at + j) (zeroByte + x % 10)) at (digits i (x / 10))) (digits-length i (x / 10))
+module _ (base : ℕ) (byte : ℕ → ℕ) (l : List ℕ) (at : ℕ) where
+  -- the lowest digit is stored and the others are left
+  pub write-more : (i x : ℕ) → sets l at (digitsIn base byte (suc i) x) ≡ sets (set l (at + i) (byte (x % base))) at (digitsIn base byte i (x / base))
+  unfolding digitsIn
+  write-more i x =
+      sets-last (digitsIn base byte i (x / base)) l at (byte (x % base))
+      ∙ ap (λ (j : ℕ). sets (set l (at + j) (byte (x % base))) at (digitsIn base byte i (x / base))) (digits-in-length base byte i (x / base))
 
-pub write-done : (l : List ℕ) (at x : ℕ) → sets l at (digits 0 x) ≡ l
-unfolding digits
-write-done l at x = refl
+  pub write-done : (x : ℕ) → sets l at (digitsIn base byte 0 x) ≡ l
+  unfolding digitsIn
+  write-done x = refl
 
 -- ---- reading
 

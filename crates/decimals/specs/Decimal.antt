@@ -16,10 +16,14 @@ comma = 44
 abbrev pub lineEnd : ℕ
 lineEnd = 10
 
--- the last `width` digits of a number
-unfoldable pub digits : ℕ → ℕ → List ℕ
-digits zero x = []
-digits (suc k) x = digits k (x / 10) ++ ((zeroByte + x % 10) ∷ [])
+-- the last `width` digits of a number in a base, each as its byte
+unfoldable pub digitsIn : ℕ → (ℕ → ℕ) → ℕ → ℕ → List ℕ
+digitsIn base byte zero x = []
+digitsIn base byte (suc k) x = digitsIn base byte k (x / base) ++ (byte (x % base) ∷ [])
+
+-- in base ten
+abbrev pub digits : ℕ → ℕ → List ℕ
+digits k x = digitsIn 10 (λ d. zeroByte + d) k x
 
 -- how many digits a number has with no leading zeros, if it has at most `most` more than one
 unfoldable pub digitCount : ℕ → ℕ → ℕ

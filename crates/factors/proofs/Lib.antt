@@ -1,4 +1,5 @@
 pub mod Chains
+pub mod BlockByBlock
 pub mod Optimal
 pub mod TableLaws
 pub mod VerdictClaims

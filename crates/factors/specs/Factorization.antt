@@ -44,6 +44,16 @@ abbrev pub blockLengths : ℕ → List ℕ → List ℕ
 blockLengths i [] = []
 blockLengths i (e ∷ es) = (e - i) ∷ blockLengths e es
 
+-- a number for each of the blocks after boundary i that have these ends
+unfoldable pub ofBlocks : (ℕ → ℕ → ℕ) → ℕ → List ℕ → List ℕ
+ofBlocks number i [] = []
+ofBlocks number i (e ∷ es) = number i e ∷ ofBlocks number e es
+
+-- a text for each of them, which is told the block's number, from k + 1 on, and its two boundaries
+unfoldable pub textOfBlocks : (ℕ → ℕ → ℕ → List ℕ) → ℕ → ℕ → List ℕ → List ℕ
+textOfBlocks text k i [] = []
+textOfBlocks text k i (e ∷ es) = text (suc k) i e ++ textOfBlocks text (suc k) e es
+
 -- at the first difference the left list has the greater number
 abbrev pub FirstGreater : List ℕ → List ℕ → Type 0
 FirstGreater [] ys = ⊥

@@ -25,7 +25,7 @@ use Rattle.paths.specs.Calls as calls
 
 -- ---- path of a split
 
-factorization-accepted : (w : List ℕ) (edition : ℕ) (ends : List ℕ) → length w ≤ limit → Edition edition → Factorization (Block anyPeriod (turnsOf edition) w) (length w) ends
+pub factorization-accepted : (w : List ℕ) (edition : ℕ) (ends : List ℕ) → length w ≤ limit → Edition edition → Factorization (Block anyPeriod (turnsOf edition) w) (length w) ends
     → accepted (length ends ∷ []) ≡ splitOutcome w edition ends
 factorization-accepted w edition ends h i F =
     let k = turnsOf edition in

@@ -17,7 +17,8 @@ use Rattle.factors.specs.Verdict.{verdict}
 use Rattle.paths.specs.Graph.{Node, black, white, Path, total, drops, encoding}
 use Rattle.repetitions.specs.Judge.{splitOutcome}
 use Rattle.runs.specs.Number.{firstNumber, runNumber}
-use Rattle.paths.specs.Calls.{runNumbers, pathOutcome, pathTable, pathJudgedOutcome}
+use Rattle.factors.specs.Factorization.{ofBlocks}
+use Rattle.paths.specs.Calls.{pathOutcome, pathTable, pathJudgedOutcome}
 use Rattle.periods.proofs.Words.{word-aa, word-aaaa, word-aabaabaa, word-abababab}
 
 -- ---- the path of a split
@@ -28,7 +29,7 @@ path-of-2-8 = refl
 
 -- the run numbers of the printed text: "block,1,1,2,1,2,0,1" and "block,2,3,8,3,2,0,2"; what follows them stays
 pub path-numbers-of-2-8 : pathTable word-aabaabaa 1 (2 ∷ 8 ∷ []) (9 ∷ 9 ∷ 9 ∷ []) ≡ 1 ∷ 2 ∷ 9 ∷ []
-unfolding pathTable pathOutcome splitOutcome verdict runNumbers runNumber firstNumber runsOf rowsBefore rowsAt runBetween run? repetition? smallestPeriod badEdition? turnsOf
+unfolding pathTable pathOutcome splitOutcome verdict ofBlocks runNumber firstNumber runsOf rowsBefore rowsAt runBetween run? repetition? smallestPeriod badEdition? turnsOf
 path-numbers-of-2-8 = refl
 
 pub path-a-place-short : pathOutcome word-aabaabaa 1 (2 ∷ 8 ∷ []) 1 ≡ refused 7 0
@@ -165,7 +166,7 @@ unfolding pathJudgedOutcome verdict entryOf runsOf rowsBefore rowsAt runBetween 
 path-two-turns-in-2 = refl
 
 pub path-numbers-in-2 : pathTable word-abababab 2 (8 ∷ []) (9 ∷ 9 ∷ []) ≡ 1 ∷ 9 ∷ []
-unfolding pathTable pathOutcome splitOutcome verdict runNumbers runNumber firstNumber runsOf rowsBefore rowsAt runBetween run? repetition? smallestPeriod badEdition? turnsOf
+unfolding pathTable pathOutcome splitOutcome verdict ofBlocks runNumber firstNumber runsOf rowsBefore rowsAt runBetween run? repetition? smallestPeriod badEdition? turnsOf
 path-numbers-in-2 = refl
 
 -- "12 ... directly after 1": before 10, and before the split's own refusals
@@ -230,7 +231,7 @@ path-of-aa = refl
 
 -- "Taking any period as the unit: aaaa then has two paths for one split": it has one run, and the end 4 one path
 pub path-numbers-of-aaaa : pathTable word-aaaa 1 (4 ∷ []) (9 ∷ []) ≡ 1 ∷ []
-unfolding pathTable pathOutcome splitOutcome verdict runNumbers runNumber firstNumber runsOf rowsBefore rowsAt runBetween run? repetition? smallestPeriod badEdition? turnsOf
+unfolding pathTable pathOutcome splitOutcome verdict ofBlocks runNumber firstNumber runsOf rowsBefore rowsAt runBetween run? repetition? smallestPeriod badEdition? turnsOf
 path-numbers-of-aaaa = refl
 
 pub path-one-of-aaaa : pathJudgedOutcome word-aaaa 1 (1 ∷ 4 ∷ []) ≡ accepted (1 ∷ [])

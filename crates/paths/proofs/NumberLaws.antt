@@ -1,32 +1,31 @@
 -- What the loops of path of a split go by: `leftEnd` goes on to the left one symbol at a time and ends where the block's run starts, so the look-up by that
--- boundary and the block's unit gives its run number; the loop keeps `Numbering`. Two turns are
--- enough for a block to have its run. Assumes nothing.
-use mathlib.Core.Path.{_≡_, refl, sym, ap, _∙_, subst}
+-- boundary and the block's unit gives its run number; what the loops over the blocks have written, and what is there still. Two turns are enough for a block to
+-- have its run. Assumes nothing.
+use mathlib.Core.Path.{_≡_, refl, sym, ap, ap₂, _∙_, subst}
 use mathlib.Core.Logic.{_≢_}
-use mathlib.Core.List.{List, _∷_, _++_, head-eq-of-cons-eq, tail-eq-of-cons-eq}
+use mathlib.Core.List.{List, _++_}
 use Prim.Native.Nat.{ℕ, zero, suc, _+_, _-_, _≤_, _<_}
 use native.Mathlib.Omega.{arith}
 use native.Mathlib.Nat.{zero-add}
 use native.Mathlib.Numerals.{add-one}
 use borrow.Author.Tests.{eq-eqb, ne-eqb}
 use lib.ListN.{length, getD, set, take, drop, length-append, length-take, length-drop}
-use lib.Seq.{take-all, drop-cons, paste-suc}
+use lib.Seq.{take-all, length-take-le, take-at, drop-at, drop-cons, getD-take, getD-at, paste-suc}
 use Rattle.periods.specs.Period.{part, smallestPeriod, anyPeriod}
 use Rattle.periods.proofs.InPlace.{symbol}
-use Rattle.periods.proofs.Claims.{part-smallest}
 use Rattle.paths.specs.LookUp.{numberOf}
 use Rattle.runs.proofs.InPlace.{RunIn, run-in}
 use Rattle.runs.proofs.Listed.{runs-listed}
 use Rattle.paths.proofs.LookUps.{number-of-complete}
-use Rattle.factors.specs.Factorization.{Chain, Factorization}
+use Rattle.factors.proofs.BlockByBlock.{of-blocks-length, Taken, next-number}
 use Rattle.repetitions.specs.Block.{Block}
 use Rattle.paths.specs.Graph.{Segment}
 use Rattle.runs.specs.Number.{runNumber}
 use Rattle.paths.specs.Calls.{runNumbers}
-use Rattle.paths.specs.Walk.{leftEnd}
-use Rattle.repetitions.proofs.Blocks.{block-up}
+use Rattle.paths.specs.Walk.{leftEnd, blockUnits}
+use Rattle.repetitions.proofs.Blocks.{block-up, block-unit}
 use Rattle.paths.proofs.Encodings.{segment-period}
-use Rattle.paths.proofs.PathClaims.{run-number-segment, length-run-numbers, left-end-is, run-starts}
+use Rattle.paths.proofs.PathClaims.{run-number-segment, left-end-is, run-starts}
 
 -- ---- the left end of a block's run, one symbol at a time
 
@@ -48,10 +47,6 @@ module _ (w : List ℕ) (p : ℕ) where
 -- ---- the look-up of a block's run
 
 module _ (w : List ℕ) (i j p : ℕ) (K : Block anyPeriod 2 w i j) (e : p ≡ smallestPeriod (part w i j)) where
-  -- a block is as long as its unit
-  pub unit-fits : i + p ≤ j
-  unit-fits = omega (arith, e, part-smallest w i j (K .0) (block-up anyPeriod 2 w i j K) .period .fits)
-
   pub left-end-inside : leftEnd w p i < length w
   left-end-inside = omega (arith, left-end-is w p i .low, block-up anyPeriod 2 w i j K, K .0)
 
@@ -72,55 +67,47 @@ module _ (w : List ℕ) (i j p : ℕ) (K : Block anyPeriod 2 w i j) (e : p ≡ s
           (run-in w (S .run .first) (S .run .last) (S .run .period) (runs-listed w .sound (runNumber w i j) (S .run) (S .numbered)))
 
       starts : leftEnd w p i ≡ S .run .first - 1
-      starts = run-starts w p (S .run .first - 1) (S .run .last) i j R (omega (arith, S .starts)) unit-fits (S .ends)
+      starts = run-starts w p (S .run .first - 1) (S .run .last) i j R (omega (arith, S .starts)) (block-unit anyPeriod 2 w i j K p e .1) (S .ends)
 
--- ---- the loop over the blocks
+-- ---- the loops over the blocks
 
--- one more number is written
-written-more : (t ns : List ℕ) (k : ℕ) → k < length t → k < length ns → set (take k ns ++ drop k t) k (getD ns k 0) ≡ take (k + 1) ns ++ drop (k + 1) t
-written-more t ns k h l = rw (add-one k) (rw (zero-add k, zero-add (suc k)) at (paste-suc t 0 ns k 0 (omega arith) l))
+-- the first k of the numbers stand in the table u, which was t
+module _ (t ns : List ℕ) (enough : length ns ≤ length t) (k : ℕ) (u : List ℕ) (W : u ≡ take k ns ++ drop k t) where
+  pub written-long : k ≤ length ns → length u ≡ length t
+  written-long h = omega (arith, ap length W, length-append (take k ns) (drop k t), length-take k ns, length-drop k t)
 
--- k blocks are numbered, up to boundary `before`: the others join up to the word, and the numbers of the first k stand in the table u, which was t
-pub record Numbering (w ends t : List ℕ) (before k : ℕ) (u : List ℕ) : Type 0 where
-  pub within : k ≤ length ends
-  pub chain : Chain (Block anyPeriod 2 w) before (drop k ends) (length w)
-  pub left : drop k (runNumbers w 0 ends) ≡ runNumbers w before (drop k ends)
-  pub written : u ≡ take k (runNumbers w 0 ends) ++ drop k t
+  -- what stood at the next place is there still
+  pub written-next : k < length ns → getD u k 0 ≡ getD t k 0
+  written-next h =
+      ap (λ (x : List ℕ). getD x k 0) (W ∙ ap (λ (x : List ℕ). take k ns ++ x) (drop-cons t k 0 (omega arith)))
+      ∙ getD-at (take k ns) (getD t k 0) (drop (suc k) t) 0 k (length-take-le k ns (omega arith))
 
-module _ (w ends t : List ℕ) where
-  pub numbering-starts : Factorization (Block anyPeriod 2 w) (length w) ends → Numbering w ends t 0 0 t
-  numbering-starts h = record { within = omega arith; chain = h; left = refl; written = refl }
+  pub written-more : (v : ℕ) → k < length ns → v ≡ getD ns k 0 → set u k v ≡ take (k + 1) ns ++ drop (k + 1) t
+  written-more v h e =
+      ap₂ (λ (x : List ℕ) (y : ℕ). set x k y) W e
+      ∙ rw (add-one k) (rw (zero-add k, zero-add (suc k)) at (paste-suc t 0 ns k 0 (omega arith) h))
 
-  module _ (before k : ℕ) (u : List ℕ) (N : Numbering w ends t before k u) where
-    pub numbering-long : length ends ≤ length t → length u ≡ length t
-    numbering-long h =
-        omega (arith, ap length (N .written), length-append (take k (runNumbers w 0 ends)) (drop k t), length-take k (runNumbers w 0 ends), length-run-numbers w 0 ends, length-drop k t, N .within)
+  pub written-all : length ns ≤ k → k ≤ length ns → u ≡ ns ++ drop (length ns) t
+  written-all h l =
+      let e : k ≡ length ns = omega arith in
+      rw e at W ∙ ap (λ (x : List ℕ). x ++ drop (length ns) t) (take-all (length ns) ns (omega arith))
 
-    module _ (l : k < length ends) where
-      next : Block anyPeriod 2 w before (getD ends k 0) × Chain (Block anyPeriod 2 w) (getD ends k 0) (drop (suc k) ends) (length w)
-      next = subst (λ (es : List ℕ). Chain (Block anyPeriod 2 w) before es (length w)) (drop-cons ends k 0 l) (N .chain)
+-- a unit that stands in the table
+pub unit-there : (w ends t : List ℕ) (before k : ℕ) → Taken (Block anyPeriod 2 w) ends (length w) k before → k < length ends → take (length ends) t ≡ blockUnits w 0 ends
+    → getD t k 0 ≡ smallestPeriod (part w before (getD ends k 0))
+unit-there w ends t before k P l e = sym (getD-take (length ends) t k 0 l) ∙ ap (λ (x : List ℕ). getD x k 0) e ∙ next-number P l (λ a b. smallestPeriod (part w a b))
 
-      -- the next piece is a block
-      pub numbering-block : Block anyPeriod 2 w before (getD ends k 0)
-      numbering-block = next .0
+-- a table u that was t, with the units of the blocks written
+module _ (w ends t u : List ℕ) (room : length ends ≤ length t) (U : u ≡ blockUnits w 0 ends ++ drop (length ends) t) where
+  count : length (blockUnits w 0 ends) ≡ length ends
+  count = of-blocks-length (λ a b. smallestPeriod (part w a b)) 0 ends
 
-      numbers : getD (runNumbers w 0 ends) k 0 ∷ drop (suc k) (runNumbers w 0 ends) ≡ runNumber w before (getD ends k 0) ∷ runNumbers w (getD ends k 0) (drop (suc k) ends)
-      unfolding runNumbers
-      numbers = sym (drop-cons (runNumbers w 0 ends) k 0 (omega (arith, length-run-numbers w 0 ends))) ∙ N .left ∙ ap (runNumbers w before) (drop-cons ends k 0 l)
+  pub units-room : length ends ≤ length u
+  units-room = omega (arith, ap length U, length-append (blockUnits w 0 ends) (drop (length ends) t), count)
 
-      pub numbering-more : length ends ≤ length t → (v : ℕ) → v ≡ runNumber w before (getD ends k 0) → Numbering w ends t (getD ends k 0) (k + 1) (set u k v)
-      numbering-more h v e = record {
-        within = omega arith;
-        chain = rw (add-one k) (next .1);
-        left = rw (add-one k) (tail-eq-of-cons-eq numbers);
-        written =
-            ap (λ (x : List ℕ). set x k v) (N .written)
-            ∙ ap (set (take k (runNumbers w 0 ends) ++ drop k t) k)
-            (e ∙ sym (head-eq-of-cons-eq numbers))
-            ∙ written-more t (runNumbers w 0 ends) k (omega arith) (omega (arith, length-run-numbers w 0 ends));
-      }
+  pub units-stand : take (length ends) u ≡ blockUnits w 0 ends
+  units-stand = ap (take (length ends)) U ∙ take-at (blockUnits w 0 ends) (drop (length ends) t) (length ends) count
 
-    pub numbering-done : length ends ≤ k → u ≡ runNumbers w 0 ends ++ drop (length ends) t
-    numbering-done h =
-        let e : k ≡ length ends = omega (arith, N .within) in
-        rw e at (N .written) ∙ ap (λ (x : List ℕ). x ++ drop (length ends) t) (take-all (length ends) (runNumbers w 0 ends) (omega (arith, length-run-numbers w 0 ends)))
+  -- the run numbers in their places
+  pub numbers-stand : (v : List ℕ) → v ≡ runNumbers w 0 ends ++ drop (length ends) u → v ≡ runNumbers w 0 ends ++ drop (length ends) t
+  numbers-stand v N = N ∙ ap (λ (x : List ℕ). runNumbers w 0 ends ++ x) (ap (drop (length ends)) U ∙ drop-at (blockUnits w 0 ends) (drop (length ends) t) (length ends) count)

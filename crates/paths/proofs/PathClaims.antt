@@ -19,7 +19,7 @@ use Rattle.periods.proofs.Editions.{two-turns}
 use Rattle.periods.proofs.InPlace.{symbol}
 use Rattle.runs.specs.Table.{runsOf}
 use Rattle.runs.proofs.InPlace.{RunIn}
-use Rattle.factors.specs.Factorization.{Chain, Factorization}
+use Rattle.factors.specs.Factorization.{Chain, Factorization, ofBlocks}
 use Rattle.factors.specs.Verdict.{VerdictMeaning, bad-end, no-block, unfinished, fine}
 use Rattle.repetitions.specs.Block.{Block}
 use Rattle.paths.specs.Graph.{Node, black, Path, GoTogether, encoding, runsOfPairs, endsOfPairs, Segment, Segments}
@@ -87,7 +87,7 @@ pairs (r ∷ rs) (e ∷ es) = r ∷ e ∷ pairs rs es
 -- those of a factorization encode a path
 numbers-segments : (k : ℕ) → 2 ≤ k → (w : List ℕ) (es : List ℕ) (i : ℕ) → Chain (Block anyPeriod k w) i es (length w)
     → Segments anyPeriod k w i (pairs (runNumbers w i es) es) (length w) × (runsOfPairs (pairs (runNumbers w i es) es) ≡ runNumbers w i es) × (endsOfPairs (pairs (runNumbers w i es) es) ≡ es)
-unfolding pairs runNumbers
+unfolding pairs ofBlocks
 numbers-segments k two w [] i h = (h, refl, refl)
 numbers-segments k two w (e ∷ es) i h =
     let r = numbers-segments k two w es e (h .1) in
@@ -100,11 +100,6 @@ numbers-path k two w ends h =
     let s = numbers-segments k two w ends 0 h in
     let p = encodes anyPeriod k w (length w) (pairs (runNumbers w 0 ends) ends) (s .0) in
     (p .0, p .1, sym (encoding-ends (black 0) (p .0)) ∙ ap endsOfPairs (p .2) ∙ s .2, ap runsOfPairs (p .2) ∙ s .1)
-
-pub length-run-numbers : (w : List ℕ) (i : ℕ) (ends : List ℕ) → length (runNumbers w i ends) ≡ length ends
-unfolding runNumbers
-length-run-numbers w i [] = refl
-length-run-numbers w i (e ∷ es) = ap suc (length-run-numbers w e es)
 
 -- ---- path of a split
 

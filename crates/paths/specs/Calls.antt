@@ -13,7 +13,7 @@ use Rattle.periods.specs.Edition.{Edition, badEdition?, turnsOf}
 use Rattle.runs.specs.declared.Record.{Record}
 use Rattle.runs.specs.Table.{runsOf}
 use Rattle.paths.specs.LookUp.{entryOf}
-use Rattle.factors.specs.Factorization.{Factorization}
+use Rattle.factors.specs.Factorization.{Factorization, ofBlocks}
 use Rattle.factors.specs.Verdict.{verdict, VerdictMeaning}
 use Rattle.repetitions.specs.Block.{Block}
 use Rattle.paths.specs.Graph.{Node, black, Path, GoTogether, encoding, runsOfPairs, endsOfPairs, Segment}
@@ -23,9 +23,8 @@ use Rattle.runs.specs.Number.{runNumber}
 -- ---- "Path of a split: the run number of each block." "The same, then 7."
 
 -- those of the blocks after boundary i that have these ends
-unfoldable pub runNumbers : List ℕ → ℕ → List ℕ → List ℕ
-runNumbers w i [] = []
-runNumbers w i (e ∷ es) = runNumber w i e ∷ runNumbers w e es
+abbrev pub runNumbers : List ℕ → ℕ → List ℕ → List ℕ
+runNumbers w i ends = ofBlocks (runNumber w) i ends
 
 unfoldable pub pathOutcome : List ℕ → ℕ → List ℕ → ℕ → Outcome
 pathOutcome w edition ends places =

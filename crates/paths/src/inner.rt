@@ -1,10 +1,10 @@
-// For this crate's calls: the caller shows what each function requires. Run numbers are worked out
+// For the library's own crates: the caller shows what each function requires. Run numbers are worked out
 // from the symbols: the runs are counted once, for each boundary after which they start, and a
 // look-up lists the runs after one boundary again.
 ghost use mathlib.Core.Path.{_≡_};
 ghost use mathlib.Core.List.{_++_};
 ghost use Prim.Native.Nat.{_≤_, _<_, _+_, _-_, _*_, _%_};
-ghost use lib.ListN.{length, getD, drop};
+ghost use lib.ListN.{length, getD, take, drop};
 ghost use lib.Seq.{sets};
 ghost use Rattle.answers.specs.Outcome.{countedView, limit};
 ghost use Rattle.periods.specs.Period.{anyPeriod};
@@ -18,7 +18,7 @@ ghost use Rattle.repetitions.specs.Block.{Block};
 ghost use Rattle.paths.specs.Graph.{endsOfPairs};
 ghost use Rattle.paths.specs.LookUp.{countsOf, hasPeriod, numberOf, entryOf, foundView, unitsFound, rowsFound, Buffers, Counts};
 ghost use Rattle.paths.specs.Calls.{runNumbers, inRun?, segment?};
-ghost use Rattle.paths.specs.Walk.{leftEnd};
+ghost use Rattle.paths.specs.Walk.{leftEnd, blockUnits};
 use answers::Counted;
 use answers::Refusal;
 use runs::Record;
@@ -133,10 +133,26 @@ fn left_end(w: &[u8], i: usize, p: usize) -> usize
     a
 }
 
-// Writes the run number of each block of a factorization. Two turns are enough for a block to have a
-// run, in any edition.
-pub(crate) fn number_blocks(w: &[u8], ends: &[u32], table: &mut [u32])
+// Writes the unit of each block of a factorization. Two turns are enough for a block, in any edition.
+pub fn block_units(w: &[u8], ends: &[u32], table: &mut [u32])
     requires { ⌜ (length (now w) ≤ limit) × Factorization (Block anyPeriod 2 (now w)) (length (now w)) (now ends) × (length (now ends) ≤ length (now table)) ⌝ }
+    ensures { λ _. ⌜ now (table .exit) ≡ blockUnits (now (w .entry)) 0 (now (ends .entry)) ++ drop (length (now (ends .entry))) (now (table .entry)) ⌝ }
+{
+    let mut before: usize = 0;
+    let mut k: usize = 0;
+    while k < ends.len() {
+        let end = ends[k] as usize;
+        table[k] = periods::smallest_period(&w[before..end]) as u32;
+        before = end;
+        k += 1;
+    }
+}
+
+// Puts the number of its run in the place of the unit of each block of a factorization. Two turns are
+// enough for a block to have a run.
+pub fn number_blocks(w: &[u8], ends: &[u32], table: &mut [u32])
+    requires { ⌜ (length (now w) ≤ limit) × Factorization (Block anyPeriod 2 (now w)) (length (now w)) (now ends) × (length (now ends) ≤ length (now table)) ⌝ }
+    requires { ⌜ take (length (now ends)) (now table) ≡ blockUnits (now w) 0 (now ends) ⌝ }
     ensures { λ _. ⌜ now (table .exit) ≡ runNumbers (now (w .entry)) 0 (now (ends .entry)) ++ drop (length (now (ends .entry))) (now (table .entry)) ⌝ }
 {
     let mut counted = [0u32; answers::LIMIT + 1];
@@ -146,11 +162,10 @@ pub(crate) fn number_blocks(w: &[u8], ends: &[u32], table: &mut [u32])
     let mut before: usize = 0;
     let mut k: usize = 0;
     while k < ends.len() {
-        let end = ends[k] as usize;
-        let p = periods::smallest_period(&w[before..end]);
-        let a = left_end(w, before, p);
-        table[k] = number_of(w, &counted, a, p as u32, &mut units, &mut rows);
-        before = end;
+        let unit = table[k];
+        let a = left_end(w, before, unit as usize);
+        table[k] = number_of(w, &counted, a, unit, &mut units, &mut rows);
+        before = ends[k] as usize;
         k += 1;
     }
 }

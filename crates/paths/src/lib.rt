@@ -4,7 +4,7 @@ ghost use lib.ListN.{length};
 ghost use Rattle.answers.specs.Outcome.{countedView};
 ghost use Rattle.paths.specs.Calls.{pathOutcome, pathTable, PathMeaning, pathJudgedOutcome, PathJudgedMeaning};
 
-mod inner;
+pub mod inner;
 
 use answers::Counted;
 use answers::Refusal;
@@ -24,6 +24,7 @@ pub fn path_of_split(w: &[u8], edition: u32, ends: &[u32], table: &mut [u32]) ->
             if table.len() < ends.len() {
                 return Counted::Refused(Refusal::TooFewPlaces);
             }
+            inner::block_units(w, ends, table);
             inner::number_blocks(w, ends, table);
             Counted::Count(blocks)
         }

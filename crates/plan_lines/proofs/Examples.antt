@@ -3,7 +3,7 @@ use mathlib.Core.Path.{_≡_, refl}
 use mathlib.Core.Bool.{true}
 use mathlib.Core.List.{List, [], _∷_}
 use Prim.Native.Nat.{ℕ}
-use Rattle.decimals.specs.Decimal.{digits}
+use Rattle.decimals.specs.Decimal.{digitsIn}
 use Rattle.plan_lines.specs.Line.{planBytes, line, line?, startsWith, ends?, endsIn, numberAt, placeOfLength, placeOfCount}
 
 -- plan,0000,0000 and byte 10
@@ -15,11 +15,11 @@ abbrev pub two-blocks : List ℕ
 two-blocks = 112 ∷ 108 ∷ 97 ∷ 110 ∷ 44 ∷ 48 ∷ 48 ∷ 48 ∷ 56 ∷ 44 ∷ 48 ∷ 48 ∷ 48 ∷ 50 ∷ 44 ∷ 48 ∷ 48 ∷ 48 ∷ 50 ∷ 44 ∷ 48 ∷ 48 ∷ 48 ∷ 56 ∷ 10 ∷ []
 
 pub line-of-none : line 0 [] ≡ empty-plan
-unfolding line digits
+unfolding line digitsIn
 line-of-none = refl
 
 pub line-of-two : line 8 (2 ∷ 8 ∷ []) ≡ two-blocks
-unfolding line digits
+unfolding line digitsIn
 line-of-two = refl
 
 pub starts-with-plan : startsWith planBytes two-blocks ≡ true

@@ -4,7 +4,7 @@ use mathlib.Core.List.{List, [], _∷_, _++_}
 use Prim.Native.Nat.{ℕ}
 use lib.ListN.{take}
 use Rattle.answers.specs.Outcome.{accepted, refused}
-use Rattle.decimals.specs.Decimal.{digits}
+use Rattle.decimals.specs.Decimal.{digitsIn}
 use Rattle.factors.specs.Verdict.{verdict}
 use Rattle.plan_lines.specs.Line.{line, line?, startsWith, ends?, endsIn}
 use Rattle.plans.specs.Calls.{plausible, writeOutcome, writeTable, readOutcome, readTable}
@@ -18,12 +18,12 @@ wrong-count = 112 ∷ 108 ∷ 97 ∷ 110 ∷ 44 ∷ 48 ∷ 48 ∷ 48 ∷ 56 ∷ 
 
 -- "giving the count of bytes"; exactly enough are enough
 pub write-two : writeOutcome 8 (2 ∷ 8 ∷ []) 25 ≡ accepted (25 ∷ [])
-unfolding writeOutcome plausible verdict line digits
+unfolding writeOutcome plausible verdict line digitsIn
 write-two = refl
 
 -- only the first bytes change
 pub write-none-into : writeTable 0 [] (1 ∷ 1 ∷ 1 ∷ 1 ∷ 1 ∷ 1 ∷ 1 ∷ 1 ∷ 1 ∷ 1 ∷ 1 ∷ 1 ∷ 1 ∷ 1 ∷ 1 ∷ 1 ∷ 1 ∷ []) ≡ empty-plan ++ (1 ∷ 1 ∷ [])
-unfolding writeTable writeOutcome plausible verdict line digits
+unfolding writeTable writeOutcome plausible verdict line digitsIn
 write-none-into = refl
 
 -- 1 comes before 3, 3 before 5, 5 before 7
@@ -40,11 +40,11 @@ unfolding writeOutcome plausible verdict
 write-unfinished = refl
 
 pub write-too-few : writeOutcome 8 (2 ∷ 8 ∷ []) 24 ≡ refused 7 0
-unfolding writeOutcome plausible verdict line digits
+unfolding writeOutcome plausible verdict line digitsIn
 write-too-few = refl
 
 pub write-refused-keeps : writeTable 8 (2 ∷ 8 ∷ []) (1 ∷ 1 ∷ 1 ∷ []) ≡ 1 ∷ 1 ∷ 1 ∷ []
-unfolding writeTable writeOutcome plausible verdict line digits
+unfolding writeTable writeOutcome plausible verdict line digitsIn
 write-refused-keeps = refl
 
 -- ---- reading
@@ -80,19 +80,19 @@ read-wrong-count = refl
 
 -- a line of four digits with n above 4,096 is one: 1, not 11
 pub read-too-long : readOutcome (line 5000 (2 ∷ 5000 ∷ [])) 0 ≡ refused 1 0
-unfolding readOutcome line? startsWith ends? endsIn plausible line digits
+unfolding readOutcome line? startsWith ends? endsIn plausible line digitsIn
 read-too-long = refl
 
 pub read-not-rising : readOutcome (line 8 (2 ∷ 2 ∷ [])) 0 ≡ refused 3 2
-unfolding readOutcome line? startsWith ends? endsIn plausible verdict line digits
+unfolding readOutcome line? startsWith ends? endsIn plausible verdict line digitsIn
 read-not-rising = refl
 
 pub read-above : readOutcome (line 8 (9 ∷ [])) 0 ≡ refused 3 1
-unfolding readOutcome line? startsWith ends? endsIn plausible verdict line digits
+unfolding readOutcome line? startsWith ends? endsIn plausible verdict line digitsIn
 read-above = refl
 
 pub read-unfinished : readOutcome (line 8 (2 ∷ 7 ∷ [])) 0 ≡ refused 5 0
-unfolding readOutcome line? startsWith ends? endsIn plausible verdict line digits
+unfolding readOutcome line? startsWith ends? endsIn plausible verdict line digitsIn
 read-unfinished = refl
 
 pub read-too-few : readOutcome two-blocks 1 ≡ refused 7 0

@@ -12,9 +12,9 @@ use lib.Dec.{T, leb, leb→le, le→leb}
 use lib.ListN.{length, take, length-take}
 use lib.Seq.{getD-take, ext-getD}
 use Rattle.laws.proofs.Tests.{and-intro, and-left, and-right}
-use Rattle.periods.specs.Period.{part, Repetition, repetition?}
+use Rattle.periods.specs.Period.{part, smallestPeriod, Repetition, repetition?}
 use Rattle.periods.proofs.InPlace.{SmallestIn, symbol, Placed, placed-part, part-smallest-in, part-smallest-out}
-use Rattle.periods.proofs.Claims.{repetition-sound, repetition-complete}
+use Rattle.periods.proofs.Claims.{part-smallest, repetition-sound, repetition-complete}
 use Rattle.factors.specs.Factorization.{Chain, Factorization}
 use Rattle.factors.proofs.Chains.{chain-map, chain-within}
 use Rattle.repetitions.specs.Block.{Block, block?}
@@ -68,6 +68,10 @@ module _ (allowed : ℕ → Bool) (k : ℕ) (w : List ℕ) (i j : ℕ) where
   -- a block goes up
   pub block-up : Block allowed k w i j → i < j
   block-up K = let S = block-in K .smallest .period in omega (arith, S .positive, S .fits)
+
+  -- its unit is not 0 and fits into it
+  pub block-unit : Block allowed k w i j → (p : ℕ) → p ≡ smallestPeriod (part w i j) → (1 ≤ p) × (i + p ≤ j)
+  block-unit K p e = let S = part-smallest w i j (K .0) (block-up K) .period in (omega (arith, e, S .positive), omega (arith, e, S .fits))
 
   pub block-test-up : T (block? allowed k w i j) → i < j
   block-test-up h = block-up (block-sound h)

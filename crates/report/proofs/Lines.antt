@@ -1,27 +1,25 @@
 -- The lines of the runs and of the blocks: one more line, and how long they can be; and the finder's record of a block, which is its run. A block has one run
 -- that encloses it and has its unit (runs/proofs/Number.antt), so that the first record that the finder meets is that run. Assumes nothing.
-use mathlib.Core.Path.{_≡_, refl, sym, ap, ap₂, _∙_, subst}
+use mathlib.Core.Path.{_≡_, refl, sym, ap, ap₂, _∙_}
 use mathlib.Core.Logic.{_≢_}
 use mathlib.Core.Bool.{Bool, true, false, cond}
 use mathlib.Core.List.{List, [], _∷_, _++_, append-nil, append-assoc}
-use Prim.Native.Nat.{ℕ, zero, suc, _+_, _-_, _*_, _/_, _%_, _≤_, _<_}
+use Prim.Native.Nat.{ℕ, zero, suc, _+_, _-_, _*_, _≤_}
 use native.Mathlib.Omega.{arith}
 use native.Mathlib.Nat.{mul-le-mul-right}
-use native.Mathlib.Numerals.{add-one}
 use lib.Dec.{eqb, eqb·suc-zero}
-use lib.ListN.{length, getD, take, drop, length-append, length-take, drop-of-length-le}
-use lib.Seq.{drop-cons}
+use lib.ListN.{length, take, length-append, length-take}
 use Rattle.periods.specs.Period.{part, smallestPeriod, anyPeriod}
 use Rattle.periods.proofs.Editions.{two-turns}
-use Rattle.periods.proofs.Claims.{smallest-period-is, smallest-period-unique}
+use Rattle.periods.proofs.Claims.{smallest-period-unique}
 use Rattle.runs.specs.declared.Record.{Record}
 use Rattle.runs.specs.Table.{runsOf, numbersOf, records, recordAt}
 use Rattle.runs.proofs.Rows.{part-long}
 use Rattle.finder.specs.Find.{enclosing?, step, findRun}
 use Rattle.runs.proofs.Records.{records-none, records-more, length-records}
-use Rattle.factors.specs.Factorization.{Chain}
+use Rattle.factors.specs.Factorization.{textOfBlocks}
 use Rattle.repetitions.specs.Block.{Block}
-use Rattle.runs.specs.Number.{encloses?, firstNumber, runNumber}
+use Rattle.runs.specs.Number.{encloses?, firstNumber, runNumber, blockNumbers}
 use Rattle.repetitions.proofs.Blocks.{block-up}
 use Rattle.report.specs.Records.{runBytes, blockBytes}
 use Rattle.report.specs.Text.{printedEdition, printedTurns, runName, blockName, runLines, blockLine, blockLines}
@@ -59,46 +57,20 @@ run-lines-long (r ∷ rows) i =
 
 -- ---- blocks
 
--- a block's line, by its unit and its run number
-pub block-line-is : (w : List ℕ) (k i j unit run : ℕ) → j ≤ length w → unit ≡ smallestPeriod (part w i j) → run ≡ runNumber w i j
-    → line blockName ((k + 1) ∷ (i + 1) ∷ j ∷ unit ∷ ((j - i) / unit) ∷ ((j - i) % unit) ∷ run ∷ []) ≡ blockLine w (k + 1) i j
+-- a block's line, by its numbers
+pub block-line-is : (w : List ℕ) (number i j : ℕ) → line blockName (blockNumbers w number i j) ≡ blockLine w number i j
 unfolding blockLine
-block-line-is w k i j unit run h e f =
-    let p = smallestPeriod (part w i j) in
-    rw (e, f, add-one i)
-    (ap (λ (n : ℕ). line blockName ((k + 1) ∷ suc i ∷ j ∷ p ∷ (n / p) ∷ (n % p) ∷ runNumber w i j ∷ [])) (sym (part-long w i j h)))
-
--- its unit fits into it
-pub block-unit : (w : List ℕ) (i j unit : ℕ) → Block anyPeriod printedTurns w i j → unit ≡ smallestPeriod (part w i j) → (1 ≤ unit) × (i + unit ≤ j) × (j ≤ length w)
-block-unit w i j unit K e =
-    let u = block-up anyPeriod printedTurns w i j K in
-    let l = part-long w i j (K .0) in
-    let S = smallest-period-is (part w i j) (omega arith) in
-    (omega (arith, S .period .positive), omega (arith, S .period .fits), K .0)
+block-line-is w number i j = refl
 
 block-line-long : (w : List ℕ) (number i j : ℕ) → length (blockLine w number i j) ≤ blockBytes
 unfolding blockLine
 block-line-long w number i j = line-long blockName _
 
 pub block-lines-long : (w es : List ℕ) (k i : ℕ) → length (blockLines w k i es) ≤ blockBytes * length es
-unfolding blockLines
+unfolding textOfBlocks
 block-lines-long w [] k i = omega arith
 block-lines-long w (e ∷ es) k i =
     omega (arith, block-lines-long w es (suc k) e, block-line-long w (suc k) i e, length-append (blockLine w (suc k) i e) (blockLines w (suc k) e es))
-
--- the ends that are left, from place k on
-pub block-lines-more : (w es : List ℕ) (k i : ℕ) → k < length es
-    → blockLines w k i (drop k es) ≡ blockLine w (k + 1) i (getD es k 0) ++ blockLines w (k + 1) (getD es k 0) (drop (k + 1) es)
-unfolding blockLines
-block-lines-more w es k i h = ap (blockLines w k i) (drop-cons es k 0 h) ∙ rw (add-one k) refl
-
-pub block-lines-done : (w es : List ℕ) (k i : ℕ) → length es ≤ k → blockLines w k i (drop k es) ≡ []
-unfolding blockLines
-block-lines-done w es k i h = rw (drop-of-length-le es {i = k} h) refl
-
-pub chain-more : (B : ℕ → ℕ → Type 0) (es : List ℕ) (k i m : ℕ) → k < length es → Chain B i (drop k es) m
-    → B i (getD es k 0) × Chain B (getD es k 0) (drop (k + 1) es) m
-chain-more B es k i m h c = rw (add-one k) (subst (λ (l : List ℕ). Chain B i l m) (drop-cons es k 0 h) c)
 
 -- ---- the record of a block
 

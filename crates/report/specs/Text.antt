@@ -2,20 +2,20 @@
 -- Each line ends with byte 10, and its numbers have no leading zeros."
 use mathlib.Core.Bool.{Bool, cond}
 use mathlib.Core.List.{List, [], _∷_, _++_}
-use Prim.Native.Nat.{ℕ, suc, _/_, _%_}
+use Prim.Native.Nat.{ℕ, suc}
 use lib.Dec.{ltb}
 use lib.ListN.{length, drop}
 use Rattle.answers.specs.declared.Refusal.the-variants.{TooFewPlaces}
 use Rattle.answers.specs.Outcome.{Outcome, accepted, refusal}
-use Rattle.periods.specs.Period.{part, smallestPeriod, anyPeriod}
+use Rattle.periods.specs.Period.{anyPeriod}
 use Rattle.periods.specs.Edition.{turnsOf}
 use Rattle.runs.specs.declared.Record.{Record}
 use Rattle.runs.specs.Table.{runsOf, numbersOf}
-use Rattle.factors.specs.Factorization.{fewest, most, choiceOf, Cell, unreachable, reached, bestEnds}
+use Rattle.factors.specs.Factorization.{fewest, most, choiceOf, Cell, unreachable, reached, bestEnds, textOfBlocks}
 use Rattle.writers.specs.Line.{line}
 use Rattle.repetitions.specs.Block.{block?}
 use Rattle.repetitions.specs.BestSplit.{lastCell}
-use Rattle.runs.specs.Number.{runNumber}
+use Rattle.runs.specs.Number.{blockNumbers}
 use Rattle.finder.specs.Find.{recordLimit}
 
 -- "The program holds 1,024 passes"
@@ -65,15 +65,11 @@ runLines i (r ∷ rs) = line runName (suc i ∷ numbersOf r) ++ runLines (suc i)
 
 -- "Block: number, first, last, unit, turns, rest, run number." The block between boundaries i and j
 unfoldable pub blockLine : List ℕ → ℕ → ℕ → ℕ → List ℕ
-blockLine w number i j =
-    let s = part w i j in
-    line blockName
-    (number ∷ suc i ∷ j ∷ smallestPeriod s ∷ length s / smallestPeriod s ∷ length s % smallestPeriod s ∷ runNumber w i j ∷ [])
+blockLine w number i j = line blockName (blockNumbers w number i j)
 
 -- those of the blocks after boundary i, from number k + 1 on
-unfoldable pub blockLines : List ℕ → ℕ → ℕ → List ℕ → List ℕ
-blockLines w k i [] = []
-blockLines w k i (e ∷ es) = blockLine w (suc k) i e ++ blockLines w (suc k) e es
+abbrev pub blockLines : List ℕ → ℕ → ℕ → List ℕ → List ℕ
+blockLines w k i es = textOfBlocks (blockLine w) k i es
 
 -- a best split: its size and its blocks; "With no split it prints fewest,none and most,none."
 abbrev pub splitLines : List ℕ → List ℕ → Cell → List ℕ → List ℕ

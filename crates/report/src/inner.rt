@@ -63,16 +63,7 @@ fn block_line(
 {
     let unit = periods::smallest_period(&w[before..end]);
     let run = finder::inner::find_in(runs, count, (before + 1) as u32, end as u32, unit as u32) + 1;
-    let len = end - before;
-    let numbers = [
-        (k + 1) as u32,
-        (before + 1) as u32,
-        end as u32,
-        unit as u32,
-        (len / unit) as u32,
-        (len % unit) as u32,
-        run as u32,
-    ];
+    let numbers = runs::inner::block_numbers(k, before, end, unit as u32, run as u32);
     writers::inner::put_line(out, at, b"block", &numbers)
 }
 

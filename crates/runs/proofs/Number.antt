@@ -1,11 +1,11 @@
 -- The number of the first record that passes a test, for any test: it is that of a record that passes, and 0 only where none does; how a loop over a table
--- finds it. Then the number of the run that encloses a part twice its unit or longer: there is such a run (`one-run`), so the number is not 0. By induction on
--- the records. Assumes nothing.
+-- finds it. Then the number of the run that encloses a part twice its unit or longer: there is such a run (`one-run`), so the number is not 0; it is
+-- at most the count of the runs. And the numbers of a block, by its unit and its run number. By induction on the records. Assumes nothing.
 use mathlib.Core.Path.{_≡_, refl, sym, ap, _∙_, subst}
 use mathlib.Core.Logic.{_≢_}
 use mathlib.Core.Bool.{Bool, true, false, cond, _&&_}
 use mathlib.Core.List.{List, [], _∷_, _++_}
-use Prim.Native.Nat.{ℕ, zero, suc, _+_, _*_, _≤_, _<_}
+use Prim.Native.Nat.{ℕ, zero, suc, _+_, _-_, _*_, _/_, _%_, _≤_, _<_}
 use native.Mathlib.Omega.{arith}
 use native.Mathlib.Numerals.{add-one}
 use lib.Dec.{T, leb, eqb, le→leb, eqb-refl, eqb·suc-zero}
@@ -16,11 +16,12 @@ use Rattle.periods.proofs.Claims.{smallest-period-is}
 use Rattle.runs.specs.declared.Record.{Record}
 use Rattle.runs.specs.Run.{Entry}
 use Rattle.runs.specs.Table.{runsOf, recordAt, records}
-use Rattle.runs.specs.Number.{encloses?, firstNumber, runNumber}
+use Rattle.runs.specs.Number.{encloses?, firstNumber, runNumber, blockNumbers}
 use Rattle.runs.proofs.Entries.{no-entry}
 use Rattle.runs.proofs.Listed.{runs-listed}
 use Rattle.runs.proofs.Records.{records-more, length-records, records-split}
 use Rattle.runs.proofs.InPlace.{one-run}
+use Rattle.runs.proofs.Rows.{part-long}
 
 next-suc : (i : ℕ) → cond (eqb (suc i) 0) 0 (suc (suc i)) ≡ suc (suc i)
 next-suc i = rw (eqb·suc-zero i) refl
@@ -125,3 +126,17 @@ run-numbered w i j h some twice e =
           and-intro (leb (R .first) (i + 1)) (leb j (R .last) && eqb p p) (le→leb (R .first) (i + 1) (R .starts))
           (and-intro (leb j (R .last)) (eqb p p) (le→leb j (R .last) (R .ends)) (eqb-refl p));
     }
+
+-- ---- the numbers of a block
+
+-- by its unit and its run number
+pub block-numbers-are : (w : List ℕ) (k i j unit run : ℕ) → j ≤ length w → unit ≡ smallestPeriod (part w i j) → run ≡ runNumber w i j
+    → (k + 1) ∷ (i + 1) ∷ j ∷ unit ∷ ((j - i) / unit) ∷ ((j - i) % unit) ∷ run ∷ [] ≡ blockNumbers w (k + 1) i j
+block-numbers-are w k i j unit run h e f =
+    let p = smallestPeriod (part w i j) in
+    rw (e, f, add-one i)
+    (ap (λ (n : ℕ). (k + 1) ∷ suc i ∷ j ∷ p ∷ (n / p) ∷ (n % p) ∷ runNumber w i j ∷ []) (sym (part-long w i j h)))
+
+pub run-number-at-most : (w : List ℕ) (i j : ℕ) → runNumber w i j ≤ length (runsOf w)
+unfolding runNumber
+run-number-at-most w i j = first-at-most (encloses? i j (smallestPeriod (part w i j))) (runsOf w)

@@ -1,6 +1,7 @@
 // For the library's own crates: the caller shows what each function requires.
 ghost use mathlib.Core.Path.{_≡_};
-ghost use Prim.Native.Nat.{_≤_, _<_, _+_, _-_, _*_};
+ghost use mathlib.Core.List.{[], _∷_};
+ghost use Prim.Native.Nat.{_≤_, _<_, _+_, _-_, _*_, _/_, _%_};
 ghost use lib.ListN.{length, set};
 ghost use lib.Seq.{sets};
 ghost use Rattle.answers.specs.Outcome.{limit};
@@ -9,6 +10,9 @@ ghost use Rattle.runs.specs.Table.{run?, rowsAt, runsOf, stride, numbers
 ghost use Rattle.runs.specs.Inner.{unitsAt, unitsBefore, Scratch};
 use crate::Record;
 use crate::STRIDE;
+
+// The numbers of a block: number, first, last, unit, turns, rest and run.
+const BLOCK_NUMBERS: usize = 7;
 
 // Stores a number where the table has the place.
 pub fn store(table: &mut [u32], at: usize, value: u32)
@@ -42,6 +46,29 @@ pub fn row(table: &[u32], i: usize) -> Record
         last: table[at + 1],
         period: table[at + 2],
     }
+}
+
+// The numbers of block number k + 1, between two boundaries, by its unit and its run number.
+pub fn block_numbers(
+    k: usize,
+    before: usize,
+    end: usize,
+    unit: u32,
+    run: u32,
+) -> [u32; BLOCK_NUMBERS]
+    requires { ⌜ (k ≤ before) × (before < end) × (end ≤ limit) × (1 ≤ unit) ⌝ }
+    ensures { λ r. ⌜ r ≡ (k + 1) ∷ (before + 1) ∷ end ∷ unit ∷ ((end - before) / unit) ∷ ((end - before) % unit) ∷ run ∷ [] ⌝ }
+{
+    let len = (end - before) as u32;
+    [
+        (k + 1) as u32,
+        (before + 1) as u32,
+        end as u32,
+        unit,
+        len / unit,
+        len % unit,
+        run,
+    ]
 }
 
 // Whether the part between the boundaries a and b, whose smallest period is p, is a run.

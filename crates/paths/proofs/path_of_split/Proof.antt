@@ -9,6 +9,7 @@ use Rattle.periods.specs.Edition.{turnsOf}
 use Rattle.periods.proofs.Editions.{two-turns}
 use Rattle.repetitions.proofs.Blocks.{factorization-fewer-turns}
 use Rattle.paths.proofs.PathClaims.{path-promised-refused, path-promised-few, path-promised-numbered, accepted-split, path-answered}
+use Rattle.paths.proofs.NumberLaws.{units-room, units-stand, numbers-stand}
 use Rattle.paths.proofs.path_of_split.Statement.{statement}
 use Rattle.paths.proofs.path_of_split.Tie as tie
 
@@ -27,11 +28,25 @@ returns c =
     path-answered (g .w .now) (g .edition) (g .ends .now) (g .table .now) _ _
     (path-promised-few (g .w .now) (g .edition) (g .ends .now) (g .table .now) _ (ap countedView (sym (c .before .before .verdict2 .given .1)) ∙ c .before .before .before .before .judge-split .ensures .0) (c .if1 .taken))
 
-number-blocks-requires : tie.Need-number-blocks-requires
-number-blocks-requires c κs =
+block-units-requires : tie.Need-block-units-requires
+block-units-requires c κs =
     let g = c .before .before .before .before .before .before .before .before .before .args in
     let A = accepted-split (g .w .now) (g .edition) (g .ends .now) (g .table .now) _ (ap countedView (sym (c .before .before .before .verdict2 .given .1)) ∙ c .before .before .before .before .before .judge-split .ensures .0) in
     (A .0, factorization-fewer-turns anyPeriod 2 (turnsOf (g .edition)) (g .w .now) (length (g .w .now)) (g .ends .now) (two-turns (g .edition)) (A .3), c .before .if1 .left)
+
+number-blocks-requires : tie.Need-number-blocks-requires
+number-blocks-requires c κs =
+    let g = c .before .before .before .before .before .before .before .before .before .before .before .before .before .args in
+    let A = accepted-split (g .w .now) (g .edition) (g .ends .now) (g .table .now) _ (ap countedView (sym (c .before .before .before .before .before .before .before .verdict2 .given .1)) ∙ c .before .before .before .before .before .before .before .before .before .judge-split .ensures .0) in
+    let U = c .before .before .before .block-units .ensures in
+    let room = c .before .before .before .before .before .if1 .left in (
+      (
+        A .0,
+        factorization-fewer-turns anyPeriod 2 (turnsOf (g .edition)) (g .w .now) (length (g .w .now)) (g .ends .now) (two-turns (g .edition)) (A .3),
+        units-room (g .w .now) (g .ends .now) (g .table .now) _ room U,
+      ),
+      units-stand (g .w .now) (g .ends .now) (g .table .now) _ room U,
+    )
 
 returns-2 : tie.Need-returns-2
 returns-2 c =
@@ -44,11 +59,13 @@ same-length c = search needs
 
 returns-3 : tie.Need-returns-3
 returns-3 c =
-    let g = c .before .before .before .before .before .before .before .before .before .before .before .before .args in
-    let e = (ap countedView (sym (c .before .before .before .before .before .before .verdict2 .given .1)) ∙ c .before .before .before .before .before .before .before .before .judge-split .ensures .0) in
+    let g = c .before .before .before .before .before .before .before .before .before .before .before .before .before .before .before .before .args in
+    let e = ap countedView (sym (c .before .before .before .before .before .before .before .before .before .before .verdict2 .given .1)) ∙ c .before .before .before .before .before .before .before .before .before .before .before .before .judge-split .ensures .0 in
     let A = accepted-split (g .w .now) (g .edition) (g .ends .now) (g .table .now) _ e in
-    let P = path-promised-numbered (g .w .now) (g .edition) (g .ends .now) (g .table .now) _ e (c .before .before .before .before .if1 .left) in
-    path-answered (g .w .now) (g .edition) (g .ends .now) (g .table .now) _ _ record { answer = ap accepted (A .1) ∙ P .answer; table = c .before .before .number-blocks .ensures ∙ P .table }
+    let room = c .before .before .before .before .before .before .before .before .if1 .left in
+    let P = path-promised-numbered (g .w .now) (g .edition) (g .ends .now) (g .table .now) _ e room in
+    let N = numbers-stand (g .w .now) (g .ends .now) (g .table .now) _ room (c .before .before .before .before .before .before .block-units .ensures) _ (c .before .before .number-blocks .ensures) in
+    path-answered (g .w .now) (g .edition) (g .ends .now) (g .table .now) _ _ record { answer = ap accepted (A .1) ∙ P .answer; table = N ∙ P .table }
 
 pub path-of-split-spec : {M : Type 1} → statement M
 path-of-split-spec =
@@ -58,6 +75,7 @@ path-of-split-spec =
     enum-known-verdict
     enum-known-verdict-2
     returns
+    block-units-requires
     number-blocks-requires
     returns-2
     same-length
