@@ -21,13 +21,13 @@
  * Calls are reentrant: they keep no state, allocate nothing and call nothing back, so any number of
  * threads may call at once, with tables of their own. What a call costs is said in each comment, n
  * being the length of the word; where no stack is named, it is under 200 bytes. Stack figures are
- * for a warm call: where memset is bound lazily, the first call of a process may take some 3 KiB
- * more, since the dynamic linker looks memset up on the caller's stack.
+ * for a warm call: where memset or memcpy is bound lazily, the first call of a process may take some
+ * 3 KiB more, since the dynamic linker looks them up on the caller's stack.
  *
  * The functions are those of libcegridom.a, for x86-64 Linux only, which `rt staticlib cegridom`
- * proves and writes to target/staticlib; it needs nothing but the C library's memset. Nothing
- * checks these declarations against the source of the library: tests/c compares what every call
- * gives.
+ * proves and writes to target/staticlib; it needs nothing but the C library's memset and memcpy.
+ * Nothing checks these declarations against the source of the library: tests/c compares what every
+ * call gives.
  */
 #ifndef CEGRIDOM_H
 #define CEGRIDOM_H
@@ -41,9 +41,9 @@ extern "C" {
 
 /* The version of this header, in numbers and as text; cegridom_version gives the archive's. */
 #define CEGRIDOM_VERSION_MAJOR 0
-#define CEGRIDOM_VERSION_MINOR 4
+#define CEGRIDOM_VERSION_MINOR 5
 #define CEGRIDOM_VERSION (1000 * CEGRIDOM_VERSION_MAJOR + CEGRIDOM_VERSION_MINOR)
-#define CEGRIDOM_VERSION_STRING "0.4"
+#define CEGRIDOM_VERSION_STRING "0.5"
 
 /* The longest word that is taken. */
 #define CEGRIDOM_LIMIT 4096
@@ -59,6 +59,8 @@ extern "C" {
 #define CEGRIDOM_MOST_ENDS(n) ((n) / 2)
 /* The places that so many runs take: first, last, unit of each. */
 #define CEGRIDOM_RUN_PLACES(runs) (3 * (runs))
+/* The bytes of a page of so many blocks. */
+#define CEGRIDOM_PAGE_BYTES(k) (61 * (k))
 /* The bytes of a plan line with k ends. */
 #define CEGRIDOM_PLAN_BYTES(k) (15 + 5 * (k))
 /* The most ends that a plan line of so many bytes has. CEGRIDOM_MOST_ENDS is not enough for reading
@@ -91,7 +93,7 @@ enum cegridom_result {
     CEGRIDOM_UNFINISHED = 5,
     /* first below 1, last above n or first above last; for nodes, a position outside 1 to n */
     CEGRIDOM_BAD_POSITION = 6,
-    /* fewer output places (for writing a plan, bytes) than the answer needs */
+    /* fewer output places (for writing a plan or a page, bytes) than the answer needs */
     CEGRIDOM_TOO_FEW_PLACES = 7,
     /* a choice other than 1 or 2 */
     CEGRIDOM_BAD_CHOICE = 8,
@@ -126,7 +128,7 @@ static inline const char *cegridom_message(uint32_t result) {
         return "first below 1, last above n or first above last; for nodes, a position outside 1 "
                "to n";
     case CEGRIDOM_TOO_FEW_PLACES:
-        return "fewer output places (for writing a plan, bytes) than the answer needs";
+        return "fewer output places (for writing a plan or a page, bytes) than the answer needs";
     case CEGRIDOM_BAD_CHOICE:
         return "a choice other than 1 or 2";
     case CEGRIDOM_SHORT_TABLE:
@@ -167,9 +169,7 @@ uint32_t cegridom_part(const uint8_t *word, size_t n, uint32_t edition, uint32_t
  * Runs: writes first, last and unit of each run to table, by first and then by unit, which is the
  * order of the run numbers from 1, and gives their count.
  * Reads word; changes the first 3 x count places of table. Refusals: 1, 7.
- * 3 x n places suffice, since a word of n symbols, n above 0, has fewer than n runs. That is a
- * theorem of the literature, which a later release is to prove; until then a call with too few
- * places gives 7 and loses nothing.
+ * 3 x n places suffice, since a word of n symbols, n above 0, has fewer than n runs.
  * Time at most quadratic in n; 17 KiB of stack.
  */
 uint32_t cegridom_runs(const uint8_t *word, size_t n, uint32_t *table, size_t places,
@@ -180,7 +180,7 @@ uint32_t cegridom_runs(const uint8_t *word, size_t n, uint32_t *table, size_t pl
  * and gives their count. A run has one at each position from first + 2 x unit - 1 (in edition 2,
  * first + 3 x unit - 1) to last.
  * Reads word; changes the first count places of table. Refusals: 1, 12, 6, 7.
- * n places suffice, by the theorem that the comment of cegridom_runs names.
+ * n places suffice, since no word has more runs than symbols.
  * Time at most quadratic in n; 65 KiB of stack.
  */
 uint32_t cegridom_nodes(const uint8_t *word, size_t n, uint32_t edition, uint32_t position,
@@ -230,6 +230,22 @@ uint32_t cegridom_path_of_split(const uint8_t *word, size_t n, uint32_t edition,
  */
 uint32_t cegridom_judge_path(const uint8_t *word, size_t n, uint32_t edition,
                              const uint32_t *numbers, size_t number_count, uint32_t *blocks,
+                             uint32_t *index);
+
+/*
+ * Write a page: writes the page of a split to out, and gives its count of bytes. Each block becomes
+ * one line of 60 characters and byte 10. Its number from 1, first, last, unit, turns, rest and run
+ * number take six characters each, right-aligned and filled with spaces; the run number is that of
+ * path of a split. The other eighteen show the first nine symbols of the unit, two lower-case
+ * hexadecimal digits each, with spaces after a shorter unit. The empty word's page is empty.
+ * Reads word and ends; changes the first bytes bytes of out.
+ * Refusals: 1; 12; then for each end in turn 3, 4; then 5; then 7.
+ * CEGRIDOM_PAGE_BYTES(end_count) bytes suffice, and CEGRIDOM_PAGE_BYTES(CEGRIDOM_MOST_ENDS(n)) for
+ * every split.
+ * Time at most quadratic in n; 97 KiB of stack.
+ */
+uint32_t cegridom_write_page(const uint8_t *word, size_t n, uint32_t edition, const uint32_t *ends,
+                             size_t end_count, uint8_t *out, size_t room, uint32_t *bytes,
                              uint32_t *index);
 
 /*

@@ -8,7 +8,8 @@
 //! ```
 //!
 //! The second times only the calls whose names have that word. `cargo test --benches` compares the
-//! answers and times nothing.
+//! answers and times nothing. With write a page comes a second table: what it takes beyond path of a
+//! split, for each block.
 //!
 //! A call that is told an edition has a row for each, on the same words. Buffers are allocated once
 //! and not cleared between calls. Each figure is processor time, the least of several batches, those
@@ -26,12 +27,15 @@ use words::{fibonacci, last_differs, thue_morse};
 const LENGTHS: [usize; 4] = [512, 1024, 2048, 4096];
 const DOUBLINGS: f64 = 3.0;
 const BATCHES: usize = 11;
+/// More, where a small difference of two times is wanted.
+const PAGE_BATCHES: usize = 33;
 /// A batch is as many calls as take at least this long.
 const BATCH_SECONDS: f64 = 0.004;
 /// What a call may take of its twin's time.
 const MOST_RATIO: f64 = 1.5;
 const MICRO: f64 = 1e6;
 const MILLI: f64 = 1e3;
+const NANO: f64 = 1e9;
 
 fn random(n: usize, symbols: u64) -> Vec<u8> {
     let mut state = 88_172_645_463_325_252u64;
@@ -62,11 +66,42 @@ const FAMILIES: [Family; 7] = [
     ("period 64", period_64),
 ];
 
+/// Random units over two symbols, of up to eight of them, each twice; n is even.
+fn squares(n: usize) -> Vec<u8> {
+    let symbols = random(n, 2);
+    let mut word = Vec::new();
+    for span in random(n, 8) {
+        let used = word.len() / 2;
+        let span = (1 + span as usize).min(n / 2 - used);
+        word.extend(symbols[used..used + span].repeat(2));
+    }
+    word
+}
+
+/// A word and its ends, for what a page takes beyond a path.
+type Page = (&'static str, fn(usize) -> (Vec<u8>, Vec<u32>));
+
+const PAGES: [Page; 4] = [
+    ("all equal, blocks of 2", |n| {
+        (vec![b'a'; n], (1..=n as u32 / 2).map(|k| 2 * k).collect())
+    }),
+    ("random squares, 2 symbols, most blocks", |n| {
+        let word = squares(n);
+        let ends = cegridom::best_split(&word, Edition::One, Choice::Most).unwrap();
+        (word, ends)
+    }),
+    ("a…ab twice, one block", |n| {
+        (last_differs(n / 2).repeat(2), vec![n as u32])
+    }),
+    ("all equal, one block", |n| (vec![b'a'; n], vec![n as u32])),
+];
+
 /// Tables for one of the two sides.
 #[derive(Clone, PartialEq, Debug)]
 struct Buffers {
     table: Vec<u32>,
     work: Vec<u32>,
+    page: Vec<u8>,
     line: Vec<u8>,
 }
 
@@ -75,6 +110,7 @@ impl Buffers {
         Buffers {
             table: vec![0; raw::RUN_PLACES * n],
             work: vec![0; cegridom::work_places(n)],
+            page: vec![0; cegridom::page_bytes(cegridom::most_ends(n))],
             line: vec![0; cegridom::plan_bytes(n)],
         }
     }
@@ -97,6 +133,12 @@ impl Input {
     fn new(word: Vec<u8>, edition: Edition) -> Input {
         let n = word.len() as u32;
         let ends = cegridom::best_split(&word, edition, Choice::Most).unwrap_or(vec![n]);
+        Input::split(word, edition, ends)
+    }
+
+    /// The word with these ends.
+    fn split(word: Vec<u8>, edition: Edition, ends: Vec<u32>) -> Input {
+        let n = word.len() as u32;
         let runs = cegridom::path_of_split(&word, edition, &ends).unwrap_or(vec![1]);
         let path = runs.iter().zip(&ends).flat_map(|(&r, &e)| [r, e]).collect();
         let plan_ends: Vec<u32> = (1..=n / 2).map(|k| 2 * k).collect();
@@ -167,7 +209,10 @@ fn twin_best(input: &Input, b: &mut Buffers, choice: Choice) -> Answer {
     twin::best_split(w, input.edition, choice, &mut b.table, &mut b.work).map(|v| vec![v])
 }
 
-static CALLS: [Call; 10] = [
+const PATH: &str = "path of a split";
+const PAGE: &str = "write a page";
+
+static CALLS: [Call; 11] = [
     Call {
         name: "part",
         on_words: true,
@@ -264,7 +309,7 @@ static CALLS: [Call; 10] = [
         },
     },
     Call {
-        name: "path of a split",
+        name: PATH,
         on_words: true,
         in_editions: true,
         library: |input, b| {
@@ -300,6 +345,31 @@ static CALLS: [Call; 10] = [
             })
         },
         twin: |input, _| twin::judge_path(&input.word, input.edition, &input.path).map(|v| vec![v]),
+    },
+    Call {
+        name: PAGE,
+        on_words: true,
+        in_editions: true,
+        library: |input, b| {
+            let (w, e, out) = (&input.word, &input.ends, &mut b.page);
+            answer(|[bytes], index| unsafe {
+                raw::cegridom_write_page(
+                    w.as_ptr(),
+                    w.len(),
+                    input.edition,
+                    e.as_ptr(),
+                    e.len(),
+                    out.as_mut_ptr(),
+                    out.len(),
+                    bytes,
+                    index,
+                )
+            })
+        },
+        twin: |input, b| {
+            let (w, e) = (&input.word, &input.ends);
+            twin::write_page(w, input.edition, e, &mut b.page).map(|v| vec![v])
+        },
     },
     Call {
         name: "write a plan",
@@ -538,6 +608,48 @@ fn time(calls: impl Iterator<Item = &'static Call>) {
     }
 }
 
+/// A count with a comma before its last three digits, where it has more.
+fn thousands(count: usize) -> String {
+    match count {
+        0..1000 => count.to_string(),
+        _ => format!("{},{:03}", count / 1000, count % 1000),
+    }
+}
+
+fn named(name: &str) -> &'static Call {
+    let mut calls = CALLS.iter();
+    calls.find(|call| call.name == name).expect("it is a call")
+}
+
+fn time_pages() {
+    println!("\nTime of one call in microseconds, in edition 1, and what write a page takes beyond path of a split, in nanoseconds a block.\n");
+    println!("| word and split | length | blocks | path of a split | write a page | beyond, ns a block |");
+    println!("|---|--:|--:|--:|--:|--:|");
+    let [path, page] = [PATH, PAGE].map(named);
+    for (name, make) in PAGES {
+        for n in LENGTHS {
+            let (word, ends) = make(n);
+            let blocks = ends.len();
+            let input = Input::split(word, Edition::One, ends);
+            let mut buffers = Buffers::new(n);
+            let times = times_of(path, &input, &mut buffers);
+            let (mut without, mut with) = (f64::MAX, f64::MAX);
+            for _ in 0..PAGE_BATCHES {
+                without = without.min(batch(path.library, &input, &mut buffers, times));
+                with = with.min(batch(page.library, &input, &mut buffers, times));
+            }
+            println!(
+                "| {name} | {} | {} | {:.1} | {:.1} | {:.0} |",
+                thousands(n),
+                thousands(blocks),
+                without * MICRO,
+                with * MICRO,
+                (with - without) * NANO / blocks as f64
+            );
+        }
+    }
+}
+
 fn greatest(figures: impl Iterator<Item = f64>) -> f64 {
     figures.fold(0.0, f64::max)
 }
@@ -555,15 +667,38 @@ fn compare(calls: impl Iterator<Item = &'static Call>) {
     }
 }
 
+/// The same for the pages; none is refused.
+fn compare_pages() {
+    let n = LENGTHS[0];
+    for (name, make) in PAGES {
+        let (word, ends) = make(n);
+        let input = Input::split(word, Edition::One, ends);
+        for call in [PATH, PAGE].map(named) {
+            let (mut ours, mut theirs) = (Buffers::new(n), Buffers::new(n));
+            assert!(
+                agreed(call, &input, &mut ours, &mut theirs).is_ok(),
+                "{name}"
+            );
+        }
+    }
+}
+
 fn main() {
     // `cargo bench` adds `--bench` to what is asked for; `cargo test` does not.
     let arguments: Vec<String> = std::env::args().skip(1).collect();
     let wanted = arguments.iter().find(|a| !a.starts_with("--"));
     let wanted = wanted.map_or("", String::as_str);
     let chosen = CALLS.iter().filter(|call| call.name.contains(wanted));
+    let pages = PAGE.contains(wanted);
     if arguments.iter().any(|a| a == "--bench") {
         time(chosen);
+        if pages {
+            time_pages();
+        }
     } else {
         compare(chosen);
+        if pages {
+            compare_pages();
+        }
     }
 }

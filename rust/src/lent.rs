@@ -355,6 +355,43 @@ pub fn judge_path(word: &[u8], edition: Edition, path: &[Step]) -> Result<usize,
     })
 }
 
+/// Writes the page of a split, and gives its count of bytes, [`page_bytes`](crate::page_bytes). Each
+/// block becomes one line of 60 characters and byte 10. Its number from 1, first, last, unit, turns,
+/// rest and run number take six characters each, right-aligned and filled with spaces; the run
+/// number is that of [`path_of_split_into`]. The other eighteen show the first nine symbols of the
+/// unit, two lower-case hexadecimal digits each, with spaces after a shorter unit.
+///
+/// Refusals: 1; then for each end in turn 3, 4; then 5; then 7. Time at most quadratic in the
+/// length; 97 KiB of stack.
+///
+/// ```
+/// use cegridom::{page_bytes, write_page_into, Edition};
+///
+/// let mut out = [b'.'; page_bytes(2) + 1];
+/// assert_eq!(write_page_into(b"aabaabaa", Edition::One, &[2, 8], &mut out), Ok(122));
+/// let lines = [
+///     &b"     1     1     2     1     2     0     161                \n"[..],
+///     b"     2     3     8     3     2     0     2626161            \n",
+/// ];
+/// assert_eq!(out[..122], lines.concat());
+/// assert_eq!(out[122], b'.');
+/// ```
+pub fn write_page_into(
+    word: &[u8],
+    edition: Edition,
+    ends: &[u32],
+    out: &mut [u8],
+) -> Result<usize, Refusal> {
+    let (n, word) = (word.len(), word.as_ptr());
+    let edition = edition.number();
+    let (end_count, ends) = (ends.len(), ends.as_ptr());
+    let (room, out) = (out.len(), out.as_mut_ptr());
+    // SAFETY: as said at the head of this file.
+    count(|bytes, index| unsafe {
+        raw::cegridom_write_page(word, n, edition, ends, end_count, out, room, bytes, index)
+    })
+}
+
 /// Writes the plan line of a word's length and the ends of a split, and gives its count of bytes.
 /// The line carries no symbols, so it is not asked whether the pieces are blocks.
 ///

@@ -34,7 +34,7 @@
 //! [`judge_split`], [`judge_path`], [`version`] and the functions named `.._into`, which write to
 //! tables that the caller lends, allocate nothing. The others allocate their tables; they come with
 //! the feature `alloc`, which is on by default. Without it the crate needs `core` alone. The archive
-//! needs the C library's `memset` and nothing else.
+//! needs the C library's `memset` and `memcpy` and nothing else.
 //!
 //! No call keeps state, so any number of threads may call at once. What the archive takes of the
 //! stack is said in the text of each function, 97 KiB at most; where nothing is said, it is under
@@ -64,11 +64,13 @@ mod refusal;
 
 pub use lent::{
     best_split_into, judge_path, judge_split, nodes_into, part_into, path_of_split_into,
-    read_plan_into, runs_into, version, write_plan_into, Choice, Edition, Part, Run, Step,
+    read_plan_into, runs_into, version, write_page_into, write_plan_into, Choice, Edition, Part,
+    Run, Step,
 };
 #[cfg(feature = "alloc")]
 pub use owned::{
-    best_sizes, best_split, nodes, part, path_of_split, read_plan, runs, units, write_plan, Plan,
+    best_sizes, best_split, nodes, part, path_of_split, read_plan, runs, units, write_page,
+    write_plan, Plan,
 };
 pub use refusal::Refusal;
 
@@ -94,6 +96,15 @@ pub const fn work_places(n: usize) -> usize {
 /// ```
 pub const fn most_ends(n: usize) -> usize {
     n / 2
+}
+
+/// The bytes of a page of so many blocks.
+///
+/// ```
+/// assert_eq!(cegridom::page_bytes(2), 122);
+/// ```
+pub const fn page_bytes(blocks: usize) -> usize {
+    blocks.saturating_mul(raw::PAGE_LINE_BYTES)
 }
 
 /// The bytes of a plan line with `k` ends.

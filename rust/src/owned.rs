@@ -1,9 +1,9 @@
 //! The calls that allocate their tables.
 
 use crate::{
-    best_split_into, most_ends, nodes_into, part_into, path_of_split_into, plan_bytes,
-    read_plan_into, runs_into, work_places, write_plan_into, Choice, Edition, Part, Refusal, Run,
-    LIMIT, NONE,
+    best_split_into, most_ends, nodes_into, page_bytes, part_into, path_of_split_into, plan_bytes,
+    read_plan_into, runs_into, work_places, write_page_into, write_plan_into, Choice, Edition,
+    Part, Refusal, Run, LIMIT, NONE,
 };
 use alloc::vec;
 use alloc::vec::Vec;
@@ -24,6 +24,11 @@ fn allowed(n: usize) -> usize {
     } else {
         n
     }
+}
+
+/// The number of blocks to allocate for: more ends than a split has are refused whatever is lent.
+fn blocks_within(word: &[u8], ends: &[u32]) -> usize {
+    ends.len().min(most_ends(allowed(word.len())))
 }
 
 /// The front of a table, in no more memory than it needs.
@@ -187,10 +192,34 @@ pub fn best_sizes(
 /// assert_eq!(judge_path(word, Edition::One, &path), Ok(2));
 /// ```
 pub fn path_of_split(word: &[u8], edition: Edition, ends: &[u32]) -> Result<Vec<u32>, Refusal> {
-    // More ends than a split has are refused whatever is lent.
-    let mut table = vec![0; ends.len().min(most_ends(allowed(word.len())))];
+    let mut table = vec![0; blocks_within(word, ends)];
     let count = path_of_split_into(word, edition, ends, &mut table)?;
     Ok(front(table, count))
+}
+
+/// The page of a split: for each block a line of 60 characters and byte 10, with its number from 1,
+/// first, last, unit, turns, rest, run number, and the first nine symbols of its unit in hexadecimal
+/// digits. The text of [`write_page_into`] says how a line is laid out.
+///
+/// Refusals: 1; then for each end in turn 3, 4; then 5. Allocates its answer; 97 KiB of stack.
+///
+/// ```
+/// use cegridom::{write_page, Edition, Refusal};
+///
+/// let page = write_page(b"ababa", Edition::One, &[5]).unwrap();
+/// assert_eq!(page, b"     1     1     5     2     2     1     16162              \n");
+///
+/// let page = write_page(b"aabaabaa", Edition::One, &[2, 8]).unwrap();
+/// let lines: Vec<_> = page.split_inclusive(|&byte| byte == b'\n').collect();
+/// assert_eq!(lines[0], b"     1     1     2     1     2     0     161                \n");
+/// assert_eq!(lines[1], b"     2     3     8     3     2     0     2626161            \n");
+///
+/// assert_eq!(write_page(b"ababa", Edition::Two, &[5]), Err(Refusal::NotBlock { index: 1 }));
+/// ```
+pub fn write_page(word: &[u8], edition: Edition, ends: &[u32]) -> Result<Vec<u8>, Refusal> {
+    let mut out = vec![0; page_bytes(blocks_within(word, ends))];
+    let bytes = write_page_into(word, edition, ends, &mut out)?;
+    Ok(front(out, bytes))
 }
 
 /// The plan line of a word's length and the ends of a split. The line carries no symbols, so it is

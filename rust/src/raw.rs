@@ -40,6 +40,9 @@ pub const RUN_PLACES: usize = 3;
 /// The numbers of one block in a path: the run number, the end.
 pub const STEP_PLACES: usize = 2;
 
+/// The bytes of one block in a page: a line of 60 characters and byte 10.
+pub const PAGE_LINE_BYTES: usize = 61;
+
 /// What the major version is multiplied by in [`cegridom_version`].
 pub const MAJOR: u32 = 1000;
 
@@ -138,6 +141,20 @@ extern "C" {
         numbers: *const u32,
         number_count: usize,
         blocks: *mut u32,
+        index: *mut u32,
+    ) -> u32;
+
+    /// Behind [`write_page_into`](crate::write_page_into). A block takes [`PAGE_LINE_BYTES`] bytes.
+    /// Refusals: 1; 12; for each end in turn 3, 4; 5; 7.
+    pub fn cegridom_write_page(
+        word: *const u8,
+        n: usize,
+        edition: u32,
+        ends: *const u32,
+        end_count: usize,
+        out: *mut u8,
+        room: usize,
+        bytes: *mut u32,
         index: *mut u32,
     ) -> u32;
 

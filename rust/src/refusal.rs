@@ -36,7 +36,7 @@ pub enum Refusal {
     Unfinished,
     /// 6: positions outside the word, or in the wrong order.
     BadPosition,
-    /// 7: fewer output places (for writing a plan, bytes) than the answer needs.
+    /// 7: fewer output places (for writing a plan or a page, bytes) than the answer needs.
     TooFewPlaces,
     /// 8: a choice other than 1 or 2. Only the functions in [`raw`](crate::raw) take such a one.
     BadChoice,

@@ -20,7 +20,7 @@ const MARGIN: usize = 3;
 /// Numbers that are no edition.
 const NO_EDITIONS: [u32; 3] = [0, 3, u32::MAX];
 /// More places than any answer needs.
-const MANY: usize = 5 * LIMIT + 20;
+const MANY: usize = 61 * LIMIT;
 
 /// A table of some places, of known contents, between guards.
 struct Lent<T> {
@@ -96,6 +96,15 @@ impl<'a> Known<'a> {
             word,
             runs: reference::runs(word),
             bests: reference::bests(word),
+        }
+    }
+
+    /// Without best splits, for a word that no call is to split.
+    fn unsplit(word: &'a [u8]) -> Known<'a> {
+        Known {
+            word,
+            runs: reference::runs(word),
+            bests: Default::default(),
         }
     }
 
@@ -289,6 +298,30 @@ impl Checker {
         self.count(&expected);
     }
 
+    fn write_page(&mut self, known: &Known, edition: u32, ends: &[u32], room: usize) {
+        let w = known.word;
+        let mut lent = Lent::new(room);
+        let (mut bytes, mut index) = (GUARD, GUARD);
+        let out = lent.table();
+        let result = unsafe {
+            raw::cegridom_write_page(
+                w.as_ptr(),
+                w.len(),
+                edition,
+                ends.as_ptr(),
+                ends.len(),
+                out.as_mut_ptr(),
+                out.len(),
+                &mut bytes,
+                &mut index,
+            )
+        };
+        let (expected, front) = reference::page_call(w, edition, &known.runs, ends, room);
+        compare(result, index, &[bytes], &expected, "write a page");
+        lent.changed_to(&front, "write a page");
+        self.count(&expected);
+    }
+
     fn write_plan(&mut self, n: u32, ends: &[u32], places: usize) {
         let mut lent = Lent::new(places);
         let (mut bytes, mut index) = (GUARD, GUARD);
@@ -376,6 +409,12 @@ impl Checker {
         }
     }
 
+    fn page_sizes(&mut self, known: &Known, edition: u32, ends: &[u32]) {
+        for room in around_in(edition, page_bytes(ends), known.word.len()) {
+            self.write_page(known, edition, ends, room);
+        }
+    }
+
     fn plan_sizes(&mut self, n: u32, ends: &[u32]) {
         let line = reference::line(n, ends);
         for places in around(line.len(), 0) {
@@ -429,6 +468,11 @@ fn around_in(edition: u32, exact: usize, n: usize) -> Vec<usize> {
     around(exact, n)
 }
 
+/// The bytes of a page with a line for each end.
+fn page_bytes(ends: &[u32]) -> usize {
+    61 * ends.len()
+}
+
 /// Run number and end of each block.
 fn encoded(numbers: &[u32], ends: &[u32]) -> Vec<u32> {
     numbers
@@ -464,17 +508,57 @@ impl Numbers {
         (0..n).map(|_| self.below(symbols) as u8).collect()
     }
 
-    /// At least n symbols: joined parts of so many turns and up to three more, of units up to a
-    /// length.
+    /// A part of so many turns and up to three more, of a unit up to a length.
+    fn part(&mut self, turns: usize, longest: usize, symbols: usize) -> Vec<u8> {
+        let span = 1 + self.below(longest);
+        let unit = self.word(span, symbols);
+        let length = turns * span + self.below(3 * span);
+        unit.into_iter().cycle().take(length).collect()
+    }
+
+    /// At least n symbols: such parts joined.
     fn joined(&mut self, n: usize, turns: usize, longest: usize) -> Vec<u8> {
         let mut word = Vec::new();
         while word.len() < n {
-            let span = 1 + self.below(longest);
-            let unit = self.word(span, 3);
-            let length = turns * span + self.below(3 * span);
-            word.extend(unit.iter().cycle().take(length));
+            word.extend(self.part(turns, longest, 3));
         }
         word
+    }
+
+    /// At most n symbols of such parts, and where each ends: a split that need not be a best one.
+    fn split(
+        &mut self,
+        n: usize,
+        turns: usize,
+        longest: usize,
+        symbols: usize,
+    ) -> (Vec<u8>, Vec<u32>) {
+        let (mut word, mut ends) = (Vec::new(), Vec::new());
+        loop {
+            let part = self.part(turns, longest, symbols);
+            if word.len() + part.len() > n {
+                return (word, ends);
+            }
+            word.extend(part);
+            ends.push(word.len() as u32);
+        }
+    }
+
+    /// The same ends but for one, which is changed, left out or doubled.
+    fn damaged(&mut self, ends: &[u32]) -> Vec<u32> {
+        let mut near = ends.to_vec();
+        let i = self.below(ends.len());
+        match self.below(8) {
+            0 => {
+                near.remove(i);
+            }
+            1 => near.insert(i, near[i]),
+            2 => near.truncate(i),
+            3 => near.push(ends[i] + 1),
+            4 => near[i] = self.next() as u32,
+            _ => near[i] = near[i] + self.below(5) as u32 - 2.min(near[i]),
+        }
+        near
     }
 }
 
@@ -687,6 +771,87 @@ fn short_words_judged_paths() {
 }
 
 #[test]
+fn short_words_pages() {
+    let mut checker = Checker::default();
+    every_short_word(|w| {
+        let known = Known::of(w);
+        let n = w.len() as u32;
+        for edition in EDITIONS {
+            // Every rising series of ends up to n + 1, for the shorter words.
+            if n <= 8 {
+                for set in 0u32..1 << (n + 1) {
+                    let ends: Vec<u32> = (1..=n + 1).filter(|e| set >> (e - 1) & 1 == 1).collect();
+                    checker.write_page(&known, edition, &ends, page_bytes(&ends));
+                }
+            }
+            for ends in reference::plain_splits(w, reference::turns(edition).unwrap()) {
+                checker.page_sizes(&known, edition, &ends);
+                // The other edition may refuse it.
+                checker.page_sizes(&known, 3 - edition, &ends);
+                let mut near = ends.clone();
+                for i in 0..ends.len() {
+                    for change in [0, near[i] - 1, near[i] + 1, u32::MAX] {
+                        near[i] = change;
+                        checker.write_page(&known, edition, &near, 0);
+                        checker.write_page(&known, edition, &near, page_bytes(&near));
+                        near[i] = ends[i];
+                    }
+                    checker.page_sizes(&known, edition, &ends[..i]);
+                }
+            }
+        }
+        for edition in NO_EDITIONS {
+            for ends in [&[][..], &[n], &[1, n], &[0], &[n + 1]] {
+                checker.page_sizes(&known, edition, ends);
+            }
+        }
+    });
+    checker.report("pages of short words");
+}
+
+/// Splits that are no best ones, over few symbols and over all, with units of up to nine symbols and
+/// of more, and numbers of one digit to four.
+#[test]
+fn pages() {
+    let mut checker = Checker::default();
+    let mut numbers = Numbers(362_436_069);
+    for n in [12, 40, 99, 100, 500, 999, 1000, LIMIT] {
+        for longest in [1, 8, 12, n / 3] {
+            for symbols in [1, 2, 3, 17, 256] {
+                for edition in EDITIONS {
+                    let turns = reference::turns(edition).unwrap();
+                    let (word, ends) = numbers.split(n, turns, longest, symbols);
+                    page_and_near(&mut checker, &mut numbers, &word, edition, &ends);
+                }
+            }
+        }
+    }
+    checker.report("pages");
+}
+
+/// The page of a split and what is near it.
+fn page_and_near(
+    checker: &mut Checker,
+    numbers: &mut Numbers,
+    w: &[u8],
+    edition: u32,
+    ends: &[u32],
+) {
+    let known = Known::unsplit(w);
+    checker.page_sizes(&known, edition, ends);
+    // The other edition may refuse it.
+    checker.page_sizes(&known, 3 - edition, ends);
+    if ends.is_empty() {
+        return;
+    }
+    for _ in 0..if w.len() < LONG { 20 } else { 4 } {
+        let near = numbers.damaged(ends);
+        checker.write_page(&known, edition, &near, 0);
+        checker.write_page(&known, edition, &near, page_bytes(&near));
+    }
+}
+
+#[test]
 fn long_words() {
     let mut checker = Checker::default();
     let mut numbers = Numbers(88_172_645_463_325_252);
@@ -756,6 +921,7 @@ fn long_word(checker: &mut Checker, numbers: &mut Numbers, w: &[u8]) {
     let ends: Vec<u32> = (1..=n as u32).filter(|_| numbers.below(3) == 0).collect();
     for edition in EDITIONS {
         checker.judge_split(w, edition, &ends);
+        checker.write_page(&known, edition, &ends, page_bytes(&ends));
     }
     for edition in NO_EDITIONS {
         checker.part(w, edition, 1, n as u32, n);
@@ -764,6 +930,7 @@ fn long_word(checker: &mut Checker, numbers: &mut Numbers, w: &[u8]) {
         checker.judge_split(w, edition, &ends);
         checker.path_of_split(&known, edition, &ends, n);
         checker.judge_path(&known, edition, &ends);
+        checker.write_page(&known, edition, &ends, page_bytes(&ends));
     }
 }
 
@@ -783,6 +950,7 @@ fn long_split(
     // The other edition may refuse it.
     checker.judge_split(w, 3 - edition, ends);
     checker.path_sizes(known, edition, ends);
+    checker.page_sizes(known, edition, ends);
     checker.plan_sizes(n as u32, ends);
     let path = known.path(edition, ends);
     checker.judge_path(known, edition, &path);
@@ -793,6 +961,7 @@ fn long_split(
         near[i] = near[i] + numbers.below(5) as u32 - 2.min(near[i]);
         checker.judge_split(w, edition, &near);
         checker.path_of_split(known, edition, &near, near.len());
+        checker.write_page(known, edition, &near, page_bytes(&near));
         let mut near = path.clone();
         let i = numbers.below(path.len());
         near[i] = near[i] + numbers.below(5) as u32 - 2.min(near[i]);
@@ -831,6 +1000,8 @@ fn words_over_the_limit() {
                     checker.judge_split(&w, edition, ends);
                     checker.path_of_split(&known, edition, ends, 0);
                     checker.path_of_split(&known, edition, ends, 1);
+                    checker.write_page(&known, edition, ends, 0);
+                    checker.write_page(&known, edition, ends, page_bytes(&[all]));
                 }
                 for path in [&[][..], &[1], &[1, all], &[1, 0]] {
                     checker.judge_path(&known, edition, path);
@@ -917,6 +1088,7 @@ fn every_refusal_in_its_order() {
     let known = Known::of(word);
     let baa = Known::of(b"baa");
     let equal = Known::of(b"aaaaaa");
+    let empty = Known::of(b"");
     let long = vec![b'a'; 4097];
     let too_long = Known::of(&long);
     let expect = |checker: &mut Checker, number: usize, make: &dyn Fn(&mut Checker)| {
@@ -1023,6 +1195,29 @@ fn every_refusal_in_its_order() {
     expect(&mut checker, 4, &|c| c.judge_path(&known, 2, &[2, 8]));
     expect(&mut checker, 4, &|c| c.judge_path(&equal, 2, &[1, 2, 1, 6]));
     expect(&mut checker, 0, &|c| c.judge_path(&equal, 2, &[1, 3, 1, 6]));
+    // write a page: as for path of a split
+    expect(&mut checker, 1, &|c| c.write_page(&too_long, 0, &[0], 0));
+    expect(&mut checker, 1, &|c| {
+        c.write_page(&too_long, 1, &[4097], 61)
+    });
+    expect(&mut checker, 12, &|c| c.write_page(&known, 0, &[9], 0));
+    expect(&mut checker, 12, &|c| c.write_page(&known, 3, &[8], 61));
+    expect(&mut checker, 3, &|c| c.write_page(&known, 1, &[9], 0));
+    expect(&mut checker, 3, &|c| {
+        c.write_page(&known, 1, &[2, 2, 7], 61)
+    });
+    expect(&mut checker, 4, &|c| c.write_page(&known, 1, &[3, 3], 0));
+    expect(&mut checker, 4, &|c| c.write_page(&known, 1, &[2, 4], 122));
+    expect(&mut checker, 4, &|c| c.write_page(&known, 2, &[2, 8], 122));
+    expect(&mut checker, 5, &|c| c.write_page(&known, 1, &[2], 0));
+    expect(&mut checker, 5, &|c| c.write_page(&known, 1, &[], 0));
+    expect(&mut checker, 7, &|c| c.write_page(&known, 1, &[2, 8], 0));
+    expect(&mut checker, 7, &|c| c.write_page(&known, 1, &[2, 8], 121));
+    expect(&mut checker, 0, &|c| c.write_page(&known, 1, &[2, 8], 122));
+    expect(&mut checker, 7, &|c| c.write_page(&equal, 2, &[3, 6], 121));
+    expect(&mut checker, 0, &|c| c.write_page(&equal, 2, &[3, 6], 122));
+    expect(&mut checker, 0, &|c| c.write_page(&empty, 1, &[], 0));
+    expect(&mut checker, 3, &|c| c.write_page(&empty, 2, &[0], 0));
     // write a plan: 1; 3 for each end; 5; 7
     expect(&mut checker, 1, &|c| c.write_plan(4097, &[0], 0));
     expect(&mut checker, 3, &|c| c.write_plan(8, &[9], 0));
@@ -1206,6 +1401,21 @@ impl Wrappers {
         numbers
     }
 
+    fn write_page(&mut self, known: &Known, edition: Edition, ends: &[u32]) {
+        let w = known.word;
+        let call = |room| reference::page_call(w, edition.number(), &known.runs, ends, room);
+        let (outcome, page) = call(MANY);
+        let got = cegridom::write_page(w, edition, ends);
+        self.agree(got, said(outcome, |_| page.clone()));
+        for room in around(cegridom::page_bytes(ends.len()), w.len()) {
+            let mut lent = vec![b'.'; room];
+            let (outcome, front) = call(room);
+            let got = cegridom::write_page_into(w, edition, ends, &mut lent);
+            self.agree(got, said(outcome, only));
+            assert_eq!(lent, table(&front, room, b'.'));
+        }
+    }
+
     fn judges(&mut self, known: &Known, edition: Edition, ends: &[u32], numbers: &[u32]) {
         let (w, number) = (known.word, edition.number());
         let outcome = reference::judge_split_call(w, number, ends);
@@ -1270,6 +1480,7 @@ fn wrappers() {
                 let numbers = wrappers.path_of_split(&known, edition, &ends);
                 for judging in [Edition::One, Edition::Two] {
                     wrappers.judges(&known, judging, &ends, &numbers);
+                    wrappers.write_page(&known, judging, &ends);
                 }
                 wrappers.plans(w.len(), &ends);
             }

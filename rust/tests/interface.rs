@@ -1,5 +1,5 @@
-//! What the types of the crate promise: refusals and their numbers, lengths that do not fit, what
-//! the units of a part take of memory, and the example `fewest`.
+//! What the types of the crate promise: refusals and their numbers, lengths that do not fit, a page
+//! byte for byte, what the units of a part and a page take of memory, and the example `fewest`.
 
 use cegridom::{Choice, Edition, Refusal, LIMIT};
 use std::alloc::{GlobalAlloc, Layout, System};
@@ -90,6 +90,7 @@ fn a_length_over_32_bits_is_too_long() {
 fn sizes_do_not_overflow() {
     assert_eq!(cegridom::work_places(LIMIT), 4 * (LIMIT + 1));
     assert_eq!(cegridom::work_places(usize::MAX), usize::MAX);
+    assert_eq!(cegridom::page_bytes(usize::MAX), usize::MAX);
     assert_eq!(cegridom::plan_bytes(usize::MAX), usize::MAX);
     assert_eq!(cegridom::most_ends(usize::MAX), usize::MAX / 2);
 }
@@ -100,6 +101,30 @@ fn the_archive_has_the_version_of_the_crate() {
     let number = |text: &str| text.parse::<u32>().unwrap();
     assert_eq!(major, number(env!("CARGO_PKG_VERSION_MAJOR")));
     assert_eq!(minor, number(env!("CARGO_PKG_VERSION_MINOR")));
+}
+
+#[test]
+fn a_page_has_a_line_a_block() {
+    // Byte 10 is a symbol too, and no line is broken at it; a unit shows nine symbols at most.
+    let word = b"\0\t\n\xff\0\t\n\xffzzabcdefghijabcdefghijabc";
+    let lines = [
+        &b"     1     1     8     4     2     0     100090aff          \n"[..],
+        b"     2     9    10     1     2     0     27a                \n",
+        b"     3    11    33    10     2     3     3616263646566676869\n",
+    ];
+    let page = cegridom::write_page(word, Edition::One, &[8, 10, 33]).unwrap();
+    assert_eq!(page, lines.concat());
+    let page = cegridom::write_page(b"aaaaaaabababa", Edition::Two, &[6, 13]).unwrap();
+    let lines = [
+        &b"     1     1     6     1     6     0     161                \n"[..],
+        b"     2     7    13     2     3     1     26162              \n",
+    ];
+    assert_eq!(page, lines.concat());
+    assert_eq!(cegridom::write_page(b"", Edition::Two, &[]), Ok(vec![]));
+    let mut out = [b'.'; 62];
+    let refused = cegridom::write_page_into(b"aabb", Edition::One, &[2, 4], &mut out);
+    assert_eq!(refused, Err(Refusal::TooFewPlaces));
+    assert_eq!(out, [b'.'; 62]);
 }
 
 // ---- memory
@@ -127,11 +152,16 @@ unsafe impl GlobalAlloc for Counting {
 #[global_allocator]
 static COUNTING: Counting = Counting;
 
-/// How many numbers of 32 bits a call allocated, and what it answered.
-fn numbers_allocated<T>(call: impl FnOnce() -> T) -> (usize, T) {
+/// How many bytes a call allocated, and what it answered.
+fn bytes_allocated<T>(call: impl FnOnce() -> T) -> (usize, T) {
     let before = ALLOCATED.get();
     let answer = call();
-    let bytes = ALLOCATED.get() - before;
+    (ALLOCATED.get() - before, answer)
+}
+
+/// The same in numbers of 32 bits.
+fn numbers_allocated<T>(call: impl FnOnce() -> T) -> (usize, T) {
+    let (bytes, answer) = bytes_allocated(call);
     (bytes.div_ceil(size_of::<u32>()), answer)
 }
 
@@ -180,6 +210,31 @@ fn a_refused_part_allocates_no_more_than_the_word() {
         let said = part_allocations(&too_long, first, last);
         assert_eq!(said, ([0; 3], [Some(Refusal::TooLong); 3]));
     }
+}
+
+#[test]
+fn a_page_allocates_its_bytes() {
+    let page = |word: &[u8], ends: &[u32]| {
+        let (bytes, answer) = bytes_allocated(|| cegridom::write_page(word, Edition::One, ends));
+        (bytes, answer.map(|page| page.len()))
+    };
+    assert_eq!(page(b"aabaabaa", &[2, 8]), (122, Ok(122)));
+    assert_eq!(page(b"", &[]), (0, Ok(0)));
+    let ends: Vec<u32> = (1..=LIMIT as u32 / 2).map(|k| 2 * k).collect();
+    let most = cegridom::page_bytes(ends.len());
+    assert_eq!(page(&[b'a'; LIMIT], &ends), (most, Ok(most)));
+    // More ends than a split has, and a word that is too long.
+    let many = vec![8; 1_000_000];
+    let (bytes, refused) = page(b"aabaabaa", &many);
+    assert!(bytes <= cegridom::page_bytes(4), "{bytes}");
+    assert_eq!(refused, Err(Refusal::BadEnd { index: 2 }));
+    let refused = page(&[b'a'; LIMIT + 1], &many);
+    assert_eq!(refused, (0, Err(Refusal::TooLong)));
+    let (bytes, _) = bytes_allocated(|| {
+        let mut out = [0; 122];
+        cegridom::write_page_into(b"aabaabaa", Edition::One, &[2, 8], &mut out)
+    });
+    assert_eq!(bytes, 0);
 }
 
 // ---- the example

@@ -32,6 +32,7 @@ static uint32_t table[CEGRIDOM_RUN_PLACES(CEGRIDOM_LIMIT) + 1];
 static uint32_t work[CEGRIDOM_WORK_PLACES(CEGRIDOM_LIMIT) + 1];
 static uint8_t longest[CEGRIDOM_LIMIT + 1];
 static uint8_t out[CEGRIDOM_PLAN_BYTES(CEGRIDOM_LIMIT) + 1];
+static uint8_t page[CEGRIDOM_PAGE_BYTES(CEGRIDOM_MOST_ENDS(CEGRIDOM_LIMIT)) + 9];
 
 #define TABLE_PLACES (sizeof table / sizeof *table)
 
@@ -85,7 +86,7 @@ static void test_message(void) {
         "unit",
         "the last end (0 if there are none) is not n",
         "first below 1, last above n or first above last; for nodes, a position outside 1 to n",
-        "fewer output places (for writing a plan, bytes) than the answer needs",
+        "fewer output places (for writing a plan or a page, bytes) than the answer needs",
         "a choice other than 1 or 2",
         "a working table under 4 x (n+1) places",
         "a path with an odd count of numbers",
@@ -457,6 +458,50 @@ static void test_best_split(void) {
     }
 }
 
+/* What the page call is lent, so that a byte before it and one after it are watched too. */
+static uint8_t *const paper = page + 1;
+#define PAPER (sizeof page - 2)
+
+static int blank(const uint8_t *bytes, size_t count) {
+    for (size_t i = 0; i < count; i++) {
+        if (bytes[i] != '.') {
+            return 0;
+        }
+    }
+    return 1;
+}
+
+static void page_accepted(const uint8_t *word, size_t n, uint32_t edition, const uint32_t *ends,
+                          size_t count, size_t room, const char *text) {
+    size_t bytes = CEGRIDOM_PAGE_BYTES(count);
+    memset(page, '.', sizeof page);
+    reset();
+    CHECK(cegridom_write_page(word, n, edition, ends, count, paper, room, &a, &index_) ==
+          CEGRIDOM_ACCEPTED);
+    CHECK(a == bytes && index_ == 0);
+    CHECK(memcmp(paper, text, bytes) == 0);
+    CHECK(page[0] == '.' && blank(paper + bytes, sizeof page - 1 - bytes));
+}
+
+static void page_refused(const uint8_t *word, size_t n, uint32_t edition, const uint32_t *ends,
+                         size_t count, uint8_t *lent, size_t room, uint32_t result,
+                         uint32_t index) {
+    memset(page, '.', sizeof page);
+    reset();
+    CHECK(cegridom_write_page(word, n, edition, ends, count, lent, room, &a, &index_) == result);
+    CHECK(a == 0 && index_ == index && blank(page, sizeof page));
+}
+
+/* A refusal that comes before 7, so whatever is lent. */
+static void page_refused_first(const uint8_t *word, size_t n, uint32_t edition,
+                               const uint32_t *ends, size_t count, uint32_t result,
+                               uint32_t index) {
+    page_refused(word, n, edition, ends, count, NULL, 0, result, index);
+    page_refused(word, n, edition, ends, count, paper, 0, result, index);
+    page_refused(word, n, edition, ends, count, paper, CEGRIDOM_PAGE_BYTES(count), result, index);
+    page_refused(word, n, edition, ends, count, paper, PAPER, result, index);
+}
+
 /* Judges ends of a word. */
 static void judged(const char *text, uint32_t edition, const uint32_t *ends, size_t count,
                    uint32_t result, uint32_t index, uint32_t blocks) {
@@ -471,6 +516,17 @@ static void judged(const char *text, uint32_t edition, const uint32_t *ends, siz
     CHECK(cegridom_path_of_split(word, n, edition, ends, count, table, 4, &a, &index_) == result);
     CHECK(a == blocks && index_ == index);
     CHECK(result == 0 || untouched(table, 5));
+    /* and so does write a page */
+    size_t bytes = CEGRIDOM_PAGE_BYTES(blocks);
+    memset(page, '.', sizeof page);
+    reset();
+    CHECK(cegridom_write_page(word, n, edition, ends, count, paper, CEGRIDOM_PAGE_BYTES(4), &a,
+                              &index_) == result);
+    CHECK(a == bytes && index_ == index);
+    CHECK(page[0] == '.' && blank(paper + bytes, sizeof page - 1 - bytes));
+    if (result != 0) {
+        page_refused_first(word, n, edition, ends, count, result, index);
+    }
 }
 
 #define JUDGED(text, edition, result, index, blocks, ...) \
@@ -636,6 +692,149 @@ static void test_judge_path(void) {
     }
 }
 
+/* The page of a split, in just the bytes that it needs, in more, and in fewer. */
+static void paged(const uint8_t *word, size_t n, uint32_t edition, const uint32_t *ends,
+                  size_t count, const char *text) {
+    size_t bytes = CEGRIDOM_PAGE_BYTES(count);
+    CHECK(strlen(text) == bytes);
+    page_accepted(word, n, edition, ends, count, bytes, text);
+    page_accepted(word, n, edition, ends, count, bytes + 1, text);
+    page_accepted(word, n, edition, ends, count, PAPER, text);
+    page_refused(word, n, edition, ends, count, paper, bytes - 1, CEGRIDOM_TOO_FEW_PLACES, 0);
+    page_refused(word, n, edition, ends, count, paper, 0, CEGRIDOM_TOO_FEW_PLACES, 0);
+    page_refused(word, n, edition, ends, count, NULL, 0, CEGRIDOM_TOO_FEW_PLACES, 0);
+}
+
+#define PAGED(word, edition, text, ...) \
+    paged(word, edition, NUMBERS(__VA_ARGS__), COUNT(__VA_ARGS__), text)
+
+static void test_write_page(void) {
+    CHECK(CEGRIDOM_PAGE_BYTES(0) == 0 && CEGRIDOM_PAGE_BYTES(1) == 61);
+    CHECK(2 * CEGRIDOM_PAGE_BYTES(1 | 2) == 366);
+    PAGED(WORD("aabaabaa"), 1,
+          "     1     1     2     1     2     0     161                \n"
+          "     2     3     8     3     2     0     2626161            \n",
+          2, 8);
+    PAGED(WORD("aabaabaa"), 1,
+          "     1     1     6     3     2     0     2616162            \n"
+          "     2     7     8     1     2     0     461                \n",
+          6, 8);
+    PAGED(WORD("aabaabaa"), 1, "     1     1     8     3     2     2     2616162            \n", 8);
+    PAGED(WORD(BOTH), 1,
+          "     1     1     2     1     2     0     161                \n"
+          "     2     3     6     1     4     0     161                \n"
+          "     3     7    13     2     3     1     26162              \n",
+          2, 6, 13);
+    PAGED(WORD(BOTH), 2,
+          "     1     1     3     1     3     0     161                \n"
+          "     2     4     6     1     3     0     161                \n"
+          "     3     7    13     2     3     1     26162              \n",
+          3, 6, 13);
+    PAGED(WORD("aabaabaab"), 2, "     1     1     9     3     3     0     2616162            \n",
+          9);
+    /* units of eight symbols, nine, ten and twelve: no more than nine are shown */
+    PAGED(WORD("abcdefghabcdefgh"), 1,
+          "     1     1    16     8     2     0     16162636465666768  \n", 16);
+    PAGED(WORD("abcdefghiabcdefghi"), 1,
+          "     1     1    18     9     2     0     1616263646566676869\n", 18);
+    PAGED(WORD("abcdefghijabcdefghijabc"), 1,
+          "     1     1    23    10     2     3     1616263646566676869\n", 23);
+    PAGED(WORD("zzabcdefghijklabcdefghijklabcdefghijklabcdefghijk"), 1,
+          "     1     1     2     1     2     0     17a                \n"
+          "     2     3    49    12     3    11     2616263646566676869\n",
+          2, 49);
+    PAGED(WORD("\0\t\n\377\0\t\n\377"), 1,
+          "     1     1     8     4     2     0     100090aff          \n", 8);
+    PAGED(WORD("\377\377\377\n\0\t\n\0\t\n\0\t\n"), 2,
+          "     1     1     3     1     3     0     1ff                \n"
+          "     2     4    13     3     3     1     20a0009            \n",
+          3, 13);
+    /* every symbol */
+    for (uint32_t symbol = 0; symbol < 256; symbol++) {
+        for (uint32_t edition = 1; edition <= 2; edition++) {
+            uint32_t turns = edition + 1;
+            uint8_t word[3];
+            char line[CEGRIDOM_PAGE_BYTES(1) + 1];
+            memset(word, (int)symbol, sizeof word);
+            snprintf(line, sizeof line, "%6u%6u%6u%6u%6u%6u%6u%02x%16s\n", 1, 1, turns, 1, turns, 0,
+                     1, symbol, "");
+            page_accepted(word, turns, edition, &turns, 1, CEGRIDOM_PAGE_BYTES(1), line);
+        }
+    }
+    /* the empty page */
+    for (uint32_t edition = 1; edition <= 2; edition++) {
+        reset();
+        CHECK(cegridom_write_page(NULL, 0, edition, NULL, 0, NULL, 0, &a, &index_) ==
+              CEGRIDOM_ACCEPTED);
+        CHECK(a == 0 && index_ == 0);
+        page_accepted(NULL, 0, edition, NULL, 0, 0, "");
+        page_accepted(NULL, 0, edition, NULL, 0, PAPER, "");
+        page_refused_first(NULL, 0, edition, NUMBERS(0), 1, CEGRIDOM_BAD_END, 1);
+        page_refused_first(NULL, 0, edition, NUMBERS(1), 1, CEGRIDOM_BAD_END, 1);
+    }
+    /* of two ends that are refused, the first; 3 and 4 of an end before 5 of them all */
+    page_refused_first(WORD("aabaabaa"), 1, NUMBERS(3, 3, 9), 3, CEGRIDOM_NOT_BLOCK, 1);
+    page_refused_first(WORD("aabaabaa"), 1, NUMBERS(2, 2, 7), 3, CEGRIDOM_BAD_END, 2);
+    page_refused_first(WORD("aabaabaa"), 1, NUMBERS(2, 4), 2, CEGRIDOM_NOT_BLOCK, 2);
+    page_refused_first(WORD("aabaabaa"), 1, NUMBERS(8, 8), 2, CEGRIDOM_BAD_END, 2);
+    page_refused_first(WORD("aabaabaa"), 1, NUMBERS(6), 1, CEGRIDOM_UNFINISHED, 0);
+    page_refused_first(WORD("aabaabaa"), 2, NUMBERS(2, 8), 2, CEGRIDOM_NOT_BLOCK, 1);
+    for (size_t i = 0; i < NO_EDITIONS; i++) {
+        page_refused_first(WORD("aabaabaa"), no_editions[i], NUMBERS(2, 8), 2, CEGRIDOM_BAD_EDITION,
+                           0);
+        page_refused_first(NULL, 0, no_editions[i], NULL, 0, CEGRIDOM_BAD_EDITION, 0);
+    }
+    for (uint32_t edition = 0; edition <= 3; edition++) {
+        /* 1 comes before 12, 3, 4, 5 and 7 */
+        page_refused_first(longest, CEGRIDOM_LIMIT + 1, edition, NULL, 0, CEGRIDOM_TOO_LONG, 0);
+        page_refused_first(longest, CEGRIDOM_LIMIT + 1, edition, NUMBERS(0), 1, CEGRIDOM_TOO_LONG,
+                           0);
+        page_refused_first(longest, CEGRIDOM_LIMIT + 1, edition, NUMBERS(CEGRIDOM_LIMIT + 1), 1,
+                           CEGRIDOM_TOO_LONG, 0);
+    }
+}
+
+/* Numbers of one digit to four, in each column. */
+static void test_longest_page(void) {
+    static uint8_t word[CEGRIDOM_LIMIT];
+    static uint32_t ends[CEGRIDOM_MOST_ENDS(CEGRIDOM_LIMIT)];
+    static char text[CEGRIDOM_PAGE_BYTES(CEGRIDOM_MOST_ENDS(CEGRIDOM_LIMIT)) + 1];
+    /* equal symbols, and the most blocks of them */
+    for (uint32_t edition = 1; edition <= 2; edition++) {
+        uint32_t turns = edition + 1, most = CEGRIDOM_LIMIT / turns, before = 0;
+        for (uint32_t i = 0; i < most; i++) {
+            ends[i] = i + 1 < most ? before + turns : CEGRIDOM_LIMIT;
+            snprintf(text + CEGRIDOM_PAGE_BYTES(i), CEGRIDOM_PAGE_BYTES(1) + 1,
+                     "%6u%6u%6u%6u%6u%6u%6u%-18s\n", i + 1, before + 1, ends[i], 1,
+                     ends[i] - before, 0, 1, "61");
+            before = ends[i];
+        }
+        paged(longest, CEGRIDOM_LIMIT, edition, ends, most, text);
+    }
+    paged(longest, CEGRIDOM_LIMIT, 1, NUMBERS(CEGRIDOM_LIMIT), 1,
+          "     1     1  4096     1  4096     0     161                \n");
+    /* aabbaabb...: a run for each pair, and the whole word is run 2 */
+    for (uint32_t i = 0; i < CEGRIDOM_MOST_ENDS(CEGRIDOM_LIMIT); i++) {
+        word[2 * i] = word[2 * i + 1] = i % 2 == 0 ? 'a' : 'b';
+        ends[i] = 2 * i + 2;
+        snprintf(text + CEGRIDOM_PAGE_BYTES(i), CEGRIDOM_PAGE_BYTES(1) + 1,
+                 "%6u%6u%6u%6u%6u%6u%6u%-18s\n", i + 1, 2 * i + 1, ends[i], 1, 2, 0,
+                 i == 0 ? 1 : i + 2, i % 2 == 0 ? "61" : "62");
+    }
+    paged(word, CEGRIDOM_LIMIT, 1, ends, CEGRIDOM_MOST_ENDS(CEGRIDOM_LIMIT), text);
+    /* a...ab as the unit; its equal symbols are run 1 */
+    static const uint32_t spans[] = {9, 10, 100, 1500, CEGRIDOM_LIMIT / 2};
+    for (size_t i = 0; i < sizeof spans / sizeof *spans; i++) {
+        for (uint32_t p = 0; p < CEGRIDOM_LIMIT; p++) {
+            word[p] = p % spans[i] == spans[i] - 1 ? 'b' : 'a';
+        }
+        snprintf(text, sizeof text, "%6u%6u%6u%6u%6u%6u%6u%-18s\n", 1, 1, CEGRIDOM_LIMIT, spans[i],
+                 CEGRIDOM_LIMIT / spans[i], CEGRIDOM_LIMIT % spans[i], 2,
+                 spans[i] == 9 ? "616161616161616162" : "616161616161616161");
+        paged(word, CEGRIDOM_LIMIT, 1, NUMBERS(CEGRIDOM_LIMIT), 1, text);
+    }
+}
+
 static void test_write_plan(void) {
     memset(out, '.', sizeof out);
     reset();
@@ -735,6 +934,8 @@ int main(void) {
     test_judge_split();
     test_path_of_split();
     test_judge_path();
+    test_write_page();
+    test_longest_page();
     test_write_plan();
     test_read_plan();
     if (failed > 0) {

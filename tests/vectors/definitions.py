@@ -1,7 +1,7 @@
 #!/usr/bin/env python3
-"""The definitions and calls of document 01 and of document 02's item 1, as plainly as the documents
-state them, for the expected outputs of the test programs. Nothing is taken from the library or from
-its runs.
+"""The definitions and calls of document 01 and of document 02's items 1 to 3, as plainly as the
+documents state them, for the expected outputs of the test programs. Nothing is taken from the
+library or from its runs.
 
 A word (sequence) is a bytes object, a joint m stands after pass number m, and the part between the
 joints a and b is word[a:b]. A definition of blocks or nodes is told k, the turns that a block has at
@@ -249,6 +249,29 @@ def judge_path(word, edition, numbers):
     return verdict(len(word), numbers[1::2], fits)
 
 
+# ---- pages
+
+
+def page_line(number, word, a, b, run):
+    """One block's line: seven columns of six characters, right-aligned, and one of eighteen."""
+    p = unit(word[a:b])
+    columns = number, a + 1, b, p, (b - a) // p, (b - a) % p, run
+    passes = word[a : a + p][:9]
+    return b"".join(b"%6d" % column for column in columns) + passes.hex().encode().ljust(18) + b"\n"
+
+
+def write_page(word, edition, ends, out):
+    """Write a page: the judge's order, then 7. Gives the count of bytes."""
+    outcome, numbers = path_of_split(word, edition, ends, [0] * len(ends))
+    if is_refused(outcome):
+        return outcome, out
+    blocks = enumerate(zip([0] + ends, ends, numbers), 1)
+    page = list(b"".join(page_line(number, word, a, b, run) for number, (a, b, run) in blocks))
+    if len(out) < len(page):
+        return refused(7), out
+    return accepted(len(page)), written(page, out)
+
+
 # ---- plans
 
 PLAN = re.compile(rb"plan,([0-9]{4}),([0-9]{4})((?:,[0-9]{4})*)\n")
@@ -408,6 +431,12 @@ def compare_with_enumeration(word, edition):
     for path in paths:
         _, numbers = path_of_split(word, edition, path[1::2], [0] * (len(path) // 2))
         expect(numbers == path[0::2], "path of", word, edition, path[1::2])
+    for ends in splits:
+        # every split has a page, and no line another width
+        outcome, out = write_page(word, edition, ends, [7] * (61 * len(ends) + 1))
+        expect(outcome == accepted(61 * len(ends)) and out.pop() == 7, "page of", word, edition, ends)
+        lines = bytes(out).splitlines()
+        expect([len(line) for line in lines] == [60] * len(ends), "lines of", word, edition, ends)
 
 
 def compare_with_examples(edition):
@@ -424,6 +453,15 @@ def compare_with_document():
         expect(judge_split(b"aabaabaa", 1, ends) == outcome, "judged", ends)
     ababa = accepted(2, 2, 1, 1), [1, 2, 2, 2, 2, 7]
     expect(part(b"ababa", 1, 1, 5, [7] * 6) == ababa, "part of ababa")
+    page = (
+        b"     1     1     2     1     2     0     161                \n"
+        b"     2     3     8     3     2     0     2626161            \n"
+    )
+    given = write_page(b"aabaabaa", 1, [2, 8], [7] * 123)
+    expect(given == (accepted(122), list(page) + [7]), "page of aabaabaa")
+    expect(write_page(b"aabaabaa", 1, [2, 8], [7] * 121) == (refused(7), [7] * 121), "a short page")
+    for ends, outcome in JUDGED:
+        expect(write_page(b"aabaabaa", 1, ends, []) == (outcome, []), "page of", ends)
     expect(runs_of(b"aabaabaa") == [(1, 2, 1), (1, 8, 3), (4, 5, 1), (7, 8, 1)], "runs of aabaabaa")
 
 

@@ -33,6 +33,6 @@ pub part-a-place-short : resultOf (partOutcome word-ababa 1 1 5 4) ∷ indexOf (
 unfolding partOutcome badEdition?
 part-a-place-short = refl
 
--- 0.4
-pub version-is-0-4 : version ≡ 4
-version-is-0-4 = refl
+-- 0.5
+pub version-is-0-5 : version ≡ 5
+version-is-0-5 = refl

@@ -6,6 +6,7 @@ use Rattle.answers.specs.Outcome.{Outcome, accepted, refused}
 use Rattle.periods.specs.Part.{partOutcome, PartMeaning}
 use Rattle.repetitions.specs.BestSplit.{bestOutcome, BestMeaning}
 use Rattle.paths.specs.Calls.{pathOutcome, PathMeaning}
+use Rattle.pages.specs.Page.{pageOutcome, PageMeaning}
 
 -- 0 for accepted, else the refusal's number
 abbrev pub resultOf : Outcome → ℕ
@@ -22,7 +23,7 @@ abbrev pub valueOf : ℕ → Outcome → ℕ
 valueOf k (accepted v) = getD v k 0
 valueOf k (refused n i) = 0
 
--- the meanings of the part call, of best split and of path of a split, of the outcome that is handed over
+-- the meanings of the part call, of best split, of path of a split and of write a page, of the outcome that is handed over
 abbrev pub PartHanded : List ℕ → ℕ → ℕ → ℕ → List ℕ → List ℕ → Type 0
 PartHanded w edition first last t x = PartMeaning w edition first last t (partOutcome w edition first last (length t)) x
 
@@ -32,6 +33,9 @@ BestHanded w edition choice e t x y = BestMeaning w edition choice e t (bestOutc
 abbrev pub PathHanded : List ℕ → ℕ → List ℕ → List ℕ → List ℕ → Type 0
 PathHanded w edition ends t u = PathMeaning w edition ends t (pathOutcome w edition ends (length t)) u
 
--- 1,000 × the major number + the minor one, of version 0.4
+abbrev pub PageHanded : List ℕ → ℕ → List ℕ → List ℕ → List ℕ → Type 0
+PageHanded w edition ends t u = PageMeaning w edition ends t (pageOutcome w edition ends (length t)) u
+
+-- 1,000 × the major number + the minor one, of version 0.5
 abbrev pub version : ℕ
-version = 4
+version = 5

@@ -13,14 +13,15 @@ ghost use Rattle.nodes.specs.Calls.{nodesOutcome, nodesTable, NodesMeaning};
 ghost use Rattle.repetitions.specs.BestSplit.{bestOutcome, bestEndsTable, bestWork};
 ghost use Rattle.repetitions.specs.Judge.{splitOutcome, SplitMeaning};
 ghost use Rattle.paths.specs.Calls.{pathOutcome, pathTable, pathJudgedOutcome, PathJudgedMeaning};
+ghost use Rattle.pages.specs.Page.{pageOutcome, pageTable};
 ghost use Rattle.plans.specs.Calls.{planView, writeOutcome, writeTable, WriteMeaning, readOutcome, readTable, ReadMeaning};
-ghost use Rattle.cegridom.specs.Export.{resultOf, indexOf, valueOf, PartHanded, BestHanded, PathHanded, version};
+ghost use Rattle.cegridom.specs.Export.{resultOf, indexOf, valueOf, PartHanded, BestHanded, PathHanded, PageHanded, version};
 use answers::Counted;
 use periods::PartAnswer;
 use plans::PlanAnswer;
 
 // The version of this interface, 1,000 × major + minor.
-pub const VERSION: u32 = 4;
+pub const VERSION: u32 = 5;
 
 // Takes an answer that gives one number apart.
 fn hand_over(answer: Counted, count: &mut u32, index: &mut u32) -> u32
@@ -251,6 +252,27 @@ pub extern "C" fn cegridom_judge_path(
 {
     let answer = paths::judge_path(w, edition, numbers);
     hand_over(answer, blocks, index)
+}
+
+// Write a page: a line for each block of a split, and the count of bytes. Refusals: those of
+// cegridom_judge_split, then 7.
+#[no_mangle]
+pub extern "C" fn cegridom_write_page(
+    w: &[u8],
+    edition: u32,
+    ends: &[u32],
+    out: &mut [u8],
+    bytes: &mut u32,
+    index: &mut u32,
+) -> u32
+    ensures result { λ r. ⌜ r ≡ resultOf (pageOutcome (now (w .entry)) edition (now (ends .entry)) (length (now (out .entry)))) ⌝ }
+    ensures bytes { λ _. ⌜ now (bytes .exit) ≡ valueOf 0 (pageOutcome (now (w .entry)) edition (now (ends .entry)) (length (now (out .entry)))) ⌝ }
+    ensures index { λ _. ⌜ now (index .exit) ≡ indexOf (pageOutcome (now (w .entry)) edition (now (ends .entry)) (length (now (out .entry)))) ⌝ }
+    ensures written { λ _. ⌜ now (out .exit) ≡ pageTable (now (w .entry)) edition (now (ends .entry)) (now (out .entry)) ⌝ }
+    ensures meaning { λ _. ⌜ PageHanded (now (w .entry)) edition (now (ends .entry)) (now (out .entry)) (now (out .exit)) ⌝ }
+{
+    let answer = pages::write_page(w, edition, ends, out);
+    hand_over(answer, bytes, index)
 }
 
 // Write a plan: the line of n and ends, and its count of bytes. Refusals: 1; 3 for each end; 5; 7.

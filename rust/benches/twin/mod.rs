@@ -6,6 +6,9 @@ pub type Answer<T> = Result<T, (u32, u32)>;
 const LIMIT: usize = 4096;
 const NONE: u32 = u32::MAX;
 const STRIDE: usize = 3;
+const LINE: usize = 61;
+const COLUMN: usize = 6;
+const SHOWN: usize = 9;
 
 /// The whole turns that a block of an edition has at least.
 fn turns_of(edition: u32) -> Answer<usize> {
@@ -335,11 +338,7 @@ fn number_of(
     0
 }
 
-pub fn path_of_split(w: &[u8], edition: u32, ends: &[u32], table: &mut [u32]) -> Answer<u32> {
-    let blocks = judge_split(w, edition, ends)?;
-    if table.len() < ends.len() {
-        return Err((7, 0));
-    }
+fn number_blocks(w: &[u8], ends: &[u32], table: &mut [u32]) {
     let mut counts = [0; LIMIT + 1];
     let mut unit_table = [0; LIMIT];
     let mut rows = [0; STRIDE * LIMIT];
@@ -352,6 +351,14 @@ pub fn path_of_split(w: &[u8], edition: u32, ends: &[u32], table: &mut [u32]) ->
         table[k] = number_of(w, &counts, a, p as u32, &mut unit_table, &mut rows);
         before = end;
     }
+}
+
+pub fn path_of_split(w: &[u8], edition: u32, ends: &[u32], table: &mut [u32]) -> Answer<u32> {
+    let blocks = judge_split(w, edition, ends)?;
+    if table.len() < ends.len() {
+        return Err((7, 0));
+    }
+    number_blocks(w, ends, table);
     Ok(blocks)
 }
 
@@ -414,6 +421,57 @@ pub fn judge_path(w: &[u8], edition: u32, numbers: &[u32]) -> Answer<u32> {
         return Err((5, 0));
     }
     Ok(blocks)
+}
+
+fn put_column(out: &mut [u8], x: usize) {
+    let mut rest = x;
+    for place in out[..COLUMN].iter_mut().rev() {
+        *place = if rest == 0 {
+            b' '
+        } else {
+            b'0' + (rest % 10) as u8
+        };
+        rest /= 10;
+    }
+    if x == 0 {
+        out[COLUMN - 1] = b'0';
+    }
+}
+
+fn put_symbols(out: &mut [u8], unit: &[u8]) {
+    const DIGITS: &[u8; 16] = b"0123456789abcdef";
+    for k in 0..SHOWN {
+        let pair = match unit.get(k) {
+            Some(&s) => [DIGITS[(s >> 4) as usize], DIGITS[(s & 15) as usize]],
+            None => [b' '; 2],
+        };
+        out[2 * k..2 * k + 2].copy_from_slice(&pair);
+    }
+}
+
+pub fn write_page(w: &[u8], edition: u32, ends: &[u32], out: &mut [u8]) -> Answer<u32> {
+    judge_split(w, edition, ends)?;
+    let bytes = LINE * ends.len();
+    if out.len() < bytes {
+        return Err((7, 0));
+    }
+    let mut numbers = [0; LIMIT / 2];
+    number_blocks(w, ends, &mut numbers);
+    let mut before = 0;
+    for (k, line) in out[..bytes].chunks_exact_mut(LINE).enumerate() {
+        let end = ends[k] as usize;
+        let block = &w[before..end];
+        let p = smallest_period(block);
+        let (turns, rest) = (block.len() / p, block.len() % p);
+        let columns = [k + 1, before + 1, end, p, turns, rest, numbers[k] as usize];
+        for (i, x) in columns.into_iter().enumerate() {
+            put_column(&mut line[COLUMN * i..], x);
+        }
+        put_symbols(&mut line[COLUMN * columns.len()..], &block[..p]);
+        line[LINE - 1] = b'\n';
+        before = end;
+    }
+    Ok(bytes as u32)
 }
 
 fn judge_ends(n: u32, ends: impl Iterator<Item = u32>) -> Answer<u32> {

@@ -480,6 +480,38 @@ pub fn path_call(
     (judged, numbers)
 }
 
+/// A line for each block: number, first, last, unit, turns, rest and run, six characters each, and
+/// eighteen for the first nine symbols of the unit.
+pub fn page_call(
+    w: &[u8],
+    edition: u32,
+    runs: &[Run],
+    ends: &[u32],
+    room: usize,
+) -> (Outcome, Vec<u8>) {
+    let (judged, numbers) = path_call(w, edition, runs, ends, ends.len());
+    if let Refused(..) = judged {
+        return (judged, vec![]);
+    }
+    let mut text = String::new();
+    let mut before = 0;
+    for (k, (&end, run)) in ends.iter().zip(numbers).enumerate() {
+        let block = &w[before..end as usize];
+        let (length, unit) = (block.len(), unit(block));
+        let (number, first) = (k + 1, before + 1);
+        let (turns, rest) = (length / unit, length % unit);
+        let shown = &block[..unit.min(9)];
+        let shown: String = shown.iter().map(|s| format!("{s:02x}")).collect();
+        text += &format!("{number:>6}{first:>6}{end:>6}{unit:>6}{turns:>6}{rest:>6}{run:>6}");
+        text += &format!("{shown:<18}\n");
+        before = end as usize;
+    }
+    if room < text.len() {
+        return (refused(7), vec![]);
+    }
+    (Accepted(vec![text.len() as u32]), text.into_bytes())
+}
+
 pub fn judge_path_call(w: &[u8], edition: u32, runs: &[Run], numbers: &[u32]) -> Outcome {
     let turns = match turns_for(w, edition) {
         Ok(turns) => turns,

@@ -1,0 +1,3 @@
+pub mod Columns
+pub mod LineClaims
+pub mod Examples

@@ -1,0 +1,104 @@
+-- The line of a page: "Each block of a split becomes one line of exactly 60 characters and byte 10."
+use mathlib.Core.Path.{_≡_}
+use mathlib.Core.Logic.{_≢_}
+use mathlib.Core.List.{List, [], _∷_, _++_}
+use Prim.Native.Nat.{ℕ, _+_, _-_, _<_}
+use lib.ListN.{length, getD, take, replicate}
+use Rattle.decimals.specs.Decimal.{digitsIn, plain, lineEnd}
+
+-- "The column widths are six each for number, first, last, unit, turns, rest and run, then eighteen."
+abbrev pub widths : List ℕ
+widths = 6 ∷ 6 ∷ 6 ∷ 6 ∷ 6 ∷ 6 ∷ 6 ∷ 18 ∷ []
+
+abbrev pub widthOf : ℕ → ℕ
+widthOf c = getD widths c 0
+
+unfoldable pub sum : List ℕ → ℕ
+sum [] = 0
+sum (x ∷ xs) = x + sum xs
+
+-- a column starts where the ones before it end
+abbrev pub startOf : ℕ → ℕ
+startOf c = sum (take c widths)
+
+-- the columns that hold numbers; the one after them shows symbols
+abbrev pub numberColumns : ℕ
+numberColumns = 7
+
+-- "exactly 60 characters and byte 10"
+abbrev pub lineWidth : ℕ
+lineWidth = 60
+
+abbrev pub lineBytes : ℕ
+lineBytes = 61
+
+-- the byte that columns are filled with
+abbrev pub space : ℕ
+space = 32
+
+abbrev pub spaces : ℕ → List ℕ
+spaces count = replicate count space
+
+-- "Numbers stand right-aligned, filled with spaces."
+abbrev pub rightAligned : ℕ → ℕ → List ℕ
+rightAligned width x = spaces (width - length (plain x)) ++ plain x
+
+-- numbers, each in its column
+unfoldable pub columns : List ℕ → List ℕ → List ℕ
+columns [] xs = []
+columns (width ∷ ws) [] = []
+columns (width ∷ ws) (x ∷ xs) = rightAligned width x ++ columns ws xs
+
+-- the lower-case hexadecimal digits: 0 1 2 3 4 5 6 7 8 9 a b c d e f
+abbrev pub hexBytes : List ℕ
+hexBytes = 48 ∷ 49 ∷ 50 ∷ 51 ∷ 52 ∷ 53 ∷ 54 ∷ 55 ∷ 56 ∷ 57 ∷ 97 ∷ 98 ∷ 99 ∷ 100 ∷ 101 ∷ 102 ∷ []
+
+abbrev pub hexByte : ℕ → ℕ
+hexByte d = getD hexBytes d 0
+
+abbrev pub hexDigits : ℕ → ℕ → List ℕ
+hexDigits k x = digitsIn 16 hexByte k x
+
+-- "the first nine passes of the unit, two lower-case hexadecimal digits each"
+abbrev pub symbolsShown : ℕ
+symbolsShown = 9
+
+abbrev pub symbolDigits : ℕ
+symbolDigits = 2
+
+-- symbols, so many digits each
+unfoldable pub symbols : ℕ → List ℕ → List ℕ
+symbols k [] = []
+symbols k (x ∷ xs) = hexDigits k x ++ symbols k xs
+
+-- "spaces after a shorter unit"
+abbrev pub leftAligned : ℕ → List ℕ → List ℕ
+leftAligned width s = s ++ spaces (width - length s)
+
+-- the last column, of a unit whose symbols have so many digits each and of which so many are shown
+abbrev pub unitColumn : ℕ → ℕ → List ℕ → List ℕ
+unitColumn k shown unit = leftAligned (widthOf numberColumns) (symbols k (take shown unit))
+
+-- the line of the numbers of a block and its unit
+unfoldable pub line : List ℕ → List ℕ → List ℕ
+line numbers unit = columns widths numbers ++ (unitColumn symbolDigits symbolsShown unit ++ (lineEnd ∷ []))
+
+-- byte 10 is not among the bytes
+abbrev pub NoEnd : List ℕ → Type 0
+NoEnd [] = Unit {0}
+NoEnd (b ∷ bs) = (b ≢ lineEnd) × NoEnd bs
+
+-- bytes that are one line of exactly 60 characters and byte 10, which stands nowhere else
+pub record OneLine (s : List ℕ) : Type 0 where
+  pub characters : List ℕ
+  pub wide : length characters ≡ lineWidth
+  pub unended : NoEnd characters
+  pub is : s ≡ characters ++ (lineEnd ∷ [])
+
+-- the numbers that a page may hold; each has a space before it in its column
+abbrev pub bound : ℕ
+bound = 100000
+
+abbrev pub Short : List ℕ → Type 0
+Short [] = Unit {0}
+Short (x ∷ xs) = (x < bound) × Short xs

@@ -1,0 +1,128 @@
+// For the call of pages: the caller shows what each function requires.
+ghost use mathlib.Core.Path.{_≡_};
+ghost use Prim.Native.Nat.{_≤_, _<_, _+_, _*_, min};
+ghost use lib.ListN.{length};
+ghost use lib.Seq.{sets};
+ghost use Rattle.decimals.specs.Decimal.{plain};
+ghost use Rattle.page_lines.specs.Line.{widths, widthOf, startOf, numberColumns, lineBytes, spaces, rightAligned, hexDigits, symbolsShown, symbolDigits, symbols, leftAligned, columns, line, Short};
+use decimals::LINE_END;
+
+// The columns: number, first, last, unit, turns, rest, run, and the symbols of the unit.
+const COLUMNS: usize = 8;
+
+const WIDTHS: [usize; COLUMNS] = [6, 6, 6, 6, 6, 6, 6, 18];
+
+const STARTS: [usize; COLUMNS] = [0, 6, 12, 18, 24, 30, 36, 42];
+
+// The column of the symbols, after those of the numbers.
+const UNIT: usize = 7;
+
+// The place of the line's end.
+const END: usize = 60;
+
+const SPACE: u8 = 32;
+
+const HEX: [u8; 16] = *b"0123456789abcdef";
+
+// How many symbols of a unit are shown, and in how many digits each.
+const SHOWN: usize = 9;
+
+const DIGITS: usize = 2;
+
+fn width(c: usize) -> usize
+    requires { ⌜ c < length widths ⌝ }
+    ensures { λ r. ⌜ r ≡ widthOf c ⌝ }
+{
+    WIDTHS[c]
+}
+
+fn start(c: usize) -> usize
+    requires { ⌜ c < length widths ⌝ }
+    ensures { λ r. ⌜ r ≡ startOf c ⌝ }
+{
+    STARTS[c]
+}
+
+// Writes so many spaces from place at on.
+fn fill(out: &mut [u8], at: usize, count: usize)
+    requires { ⌜ at + count ≤ length (now out) ⌝ }
+    ensures { λ _. ⌜ now (out .exit) ≡ sets (now (out .entry)) at (spaces count) ⌝ }
+{
+    let mut i: usize = 0;
+    while i < count {
+        out[at + i] = SPACE;
+        i += 1;
+    }
+}
+
+// Writes a number right-aligned into a column.
+fn put_number(out: &mut [u8], at: usize, width: usize, x: u32)
+    requires { ⌜ (at + width ≤ length (now out)) × (length (plain x) ≤ width) ⌝ }
+    ensures { λ _. ⌜ now (out .exit) ≡ sets (now (out .entry)) at (rightAligned width x) ⌝ }
+{
+    let digits = decimals::inner::count(x);
+    let blank = width - digits;
+    fill(out, at, blank);
+    decimals::inner::write(out, at + blank, digits, x);
+}
+
+// Writes the digits of a symbol, the lowest first.
+fn put_symbol(out: &mut [u8], at: usize, x: u8)
+    requires { ⌜ at + symbolDigits ≤ length (now out) ⌝ }
+    ensures { λ _. ⌜ now (out .exit) ≡ sets (now (out .entry)) at (hexDigits symbolDigits x) ⌝ }
+{
+    let mut rest = x;
+    let mut i = DIGITS;
+    while 0 < i {
+        i -= 1;
+        out[at + i] = HEX[(rest % 16) as usize];
+        rest /= 16;
+    }
+}
+
+// How many symbols of a unit of this length are shown.
+fn shown_of(unit: usize) -> usize
+    ensures { λ r. ⌜ r ≡ min symbolsShown unit ⌝ }
+{
+    if unit < SHOWN {
+        return unit;
+    }
+    SHOWN
+}
+
+// Writes symbols into a column, and spaces after them.
+fn put_symbols(out: &mut [u8], at: usize, width: usize, shown: &[u8])
+    requires { ⌜ (at + width ≤ length (now out)) × (symbolDigits * length (now shown) ≤ width) ⌝ }
+    ensures { λ _. ⌜ now (out .exit) ≡ sets (now (out .entry)) at (leftAligned width (symbols symbolDigits (now (shown .entry)))) ⌝ }
+{
+    let mut i: usize = 0;
+    while i < shown.len() {
+        put_symbol(out, at + DIGITS * i, shown[i]);
+        i += 1;
+    }
+    fill(out, at + DIGITS * i, width - DIGITS * i);
+}
+
+// Writes numbers into their columns.
+fn put_numbers(out: &mut [u8], at: usize, numbers: &[u32])
+    requires { ⌜ (at + lineBytes ≤ length (now out)) × (length (now numbers) ≡ numberColumns) × Short (now numbers) ⌝ }
+    ensures { λ _. ⌜ now (out .exit) ≡ sets (now (out .entry)) at (columns widths (now (numbers .entry))) ⌝ }
+{
+    let mut c: usize = 0;
+    while c < numbers.len() {
+        put_number(out, at + start(c), width(c), numbers[c]);
+        c += 1;
+    }
+}
+
+// Writes the line of a block's numbers and its unit from place at on.
+pub fn put_line(out: &mut [u8], at: usize, numbers: &[u32], unit: &[u8])
+    requires { ⌜ (at + lineBytes ≤ length (now out)) × (length (now numbers) ≡ numberColumns) × Short (now numbers) ⌝ }
+    ensures { λ _. ⌜ now (out .exit) ≡ sets (now (out .entry)) at (line (now (numbers .entry)) (now (unit .entry))) ⌝ }
+{
+    let zero: usize = 0;
+    let shown = shown_of(unit.len());
+    put_numbers(out, at, numbers);
+    put_symbols(out, at + start(UNIT), width(UNIT), &unit[zero..shown]);
+    out[at + END] = LINE_END;
+}

@@ -1,0 +1,4 @@
+pub mod PageClaims
+pub mod CallClaims
+pub mod Determined
+pub mod Examples

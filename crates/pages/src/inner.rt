@@ -1,0 +1,47 @@
+// For this crate's call: the caller shows what each function requires. Two turns are enough for a
+// block to have a run, in any edition.
+ghost use mathlib.Core.Path.{_≡_};
+ghost use Prim.Native.Nat.{_≤_, _+_, _*_};
+ghost use lib.ListN.{length};
+ghost use lib.Seq.{sets};
+ghost use Rattle.answers.specs.Outcome.{limit};
+ghost use Rattle.periods.specs.Period.{part, smallestPeriod, anyPeriod};
+ghost use Rattle.runs.specs.Number.{runNumber};
+ghost use Rattle.factors.specs.Factorization.{Factorization};
+ghost use Rattle.repetitions.specs.Block.{Block};
+ghost use Rattle.page_lines.specs.Line.{lineBytes};
+ghost use Rattle.pages.specs.Page.{pageLine, page};
+use page_lines::LINE_BYTES;
+
+// A block has two symbols at least.
+const MOST_BLOCKS: usize = answers::LIMIT / 2;
+
+// Writes the line of block number k + 1, between two boundaries, by its unit and its run number.
+fn write_block(w: &[u8], k: usize, before: usize, end: usize, unit: u32, run: u32, out: &mut [u8])
+    requires { ⌜ (k ≤ before) × (length (now w) ≤ limit) × Block anyPeriod 2 (now w) before end × (lineBytes * (k + 1) ≤ length (now out)) ⌝ }
+    requires { ⌜ (unit ≡ smallestPeriod (part (now w) before end)) × (run ≡ runNumber (now w) before end) ⌝ }
+    ensures { λ _. ⌜ now (out .exit) ≡ sets (now (out .entry)) (lineBytes * k) (pageLine (now (w .entry)) (k + 1) before end) ⌝ }
+{
+    let numbers = runs::inner::block_numbers(k, before, end, unit, run);
+    let after = before + unit as usize;
+    page_lines::inner::put_line(out, LINE_BYTES * k, &numbers, &w[before..after]);
+}
+
+// Writes the lines of the blocks of a factorization to the front of the bytes.
+pub(crate) fn write_lines(w: &[u8], ends: &[u32], out: &mut [u8])
+    requires { ⌜ (length (now w) ≤ limit) × Factorization (Block anyPeriod 2 (now w)) (length (now w)) (now ends) × (lineBytes * length (now ends) ≤ length (now out)) ⌝ }
+    ensures { λ _. ⌜ now (out .exit) ≡ sets (now (out .entry)) 0 (page (now (w .entry)) (now (ends .entry))) ⌝ }
+{
+    let mut units = [0u32; MOST_BLOCKS];
+    paths::inner::block_units(w, ends, &mut units);
+    let mut numbers = units;
+    paths::inner::number_blocks(w, ends, &mut numbers);
+    let mut before: usize = 0;
+    let mut k: usize = 0;
+    while k < ends.len() {
+        let end = ends[k] as usize;
+        write_block(w, k, before, end, units[k], numbers[k], out);
+        before = end;
+        k += 1;
+    }
+}
