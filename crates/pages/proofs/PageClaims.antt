@@ -1,5 +1,5 @@
 -- The page of a split, for words of fewer than 100,000 symbols: the numbers of a block are below 100,000, the run's too, since a word has no more runs than
--- symbols; so each block has one line of 60 characters and byte 10 (page-has-lines), these lines are the page (lines-are-the-page), and two splits of one word
+-- symbols; so each block has one line of 60 characters and byte 10 (lines-there), only the page has such lines (lines-unique), and two splits of one word
 -- with the same page are the same (page-one-split), since the third column reads as the end. By induction on the ends. Assumes nothing.
 use mathlib.Core.Path.{_≡_, refl, sym, ap, ap₂, _∙_, subst}
 use mathlib.Core.List.{List, [], _∷_, _++_}
@@ -50,7 +50,7 @@ module _ (w : List ℕ) (short : length w < bound) where
       let run-fits : runNumber w i j < bound = omega (arith, run-number-at-most w i j, runs-within w) in
       (number-fits, (first-fits, (last-fits, (unit-fits, (turns-fit, (rest-fits, (run-fits, tt)))))))
 
-  pub page-line-one : (number i j : ℕ) → Piece w i j → number ≤ j → OneLine (pageLine w number i j)
+  page-line-one : (number i j : ℕ) → Piece w i j → number ≤ j → OneLine (pageLine w number i j)
   page-line-one number i j K h =
       subst OneLine (page-line-is w number i j) (line-is-one (blockNumbers w number i j) (part w i (i + smallestPeriod (part w i j))) refl (numbers-short number i j K h))
 

@@ -6,6 +6,7 @@ use Prim.Native.Nat.{ℕ, _+_, _-_, _*_, _≤_, _<_}
 use native.Mathlib.Omega.{arith}
 use lib.ListN.{length, getD, drop, replicate, length-replicate}
 use Rattle.laws.proofs.Stores.{lent-long}
+use Rattle.answers.specs.Outcome.{limit}
 use Rattle.periods.specs.Period.{part, smallestPeriod, anyPeriod}
 use Rattle.runs.specs.Number.{runNumber}
 use Rattle.factors.specs.Factorization.{Factorization, textOfBlocks}
@@ -33,7 +34,7 @@ abbrev μ-loop : tie.MeasureT-loop
 μ-loop w ends out₀ units numbers before₀ k₀ out before k = length ends - k
 
 -- there is a place for each block
-few : (w ends : List ℕ) → length w ≤ 4096 → Factorization (Block anyPeriod 2 w) (length w) ends → length ends ≤ most-blocks
+few : (w ends : List ℕ) → length w ≤ limit → Factorization (Block anyPeriod 2 w) (length w) ends → length ends ≤ most-blocks
 few w ends h F = omega (arith, half anyPeriod 2 w (omega arith) 0 ends (length w) F)
 
 slice-aggregate-block-units : tie.Need-slice-aggregate-block-units Inv-loop μ-loop
