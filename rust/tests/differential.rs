@@ -686,6 +686,12 @@ fn short_words_best_split() {
     checker.report("best split of short words");
 }
 
+/// Every rising series of ends up to n + 1, for words of at most eight symbols.
+fn rising_ends(n: u32) -> impl Iterator<Item = Vec<u32>> {
+    let sets = if n <= 8 { 1u32 << (n + 1) } else { 0 };
+    (0..sets).map(move |set| (1..=n + 1).filter(|e| set >> (e - 1) & 1 == 1).collect())
+}
+
 #[test]
 fn short_words_judged_splits() {
     let mut checker = Checker::default();
@@ -693,13 +699,9 @@ fn short_words_judged_splits() {
         let known = Known::of(w);
         let n = w.len() as u32;
         for edition in EDITIONS {
-            // Every rising series of ends up to n + 1, for the shorter words.
-            if n <= 8 {
-                for set in 0u32..1 << (n + 1) {
-                    let ends: Vec<u32> = (1..=n + 1).filter(|e| set >> (e - 1) & 1 == 1).collect();
-                    checker.judge_split(w, edition, &ends);
-                    checker.path_of_split(&known, edition, &ends, ends.len());
-                }
+            for ends in rising_ends(n) {
+                checker.judge_split(w, edition, &ends);
+                checker.path_of_split(&known, edition, &ends, ends.len());
             }
             for ends in reference::plain_splits(w, reference::turns(edition).unwrap()) {
                 // The other edition may refuse it.
@@ -777,12 +779,8 @@ fn short_words_pages() {
         let known = Known::of(w);
         let n = w.len() as u32;
         for edition in EDITIONS {
-            // Every rising series of ends up to n + 1, for the shorter words.
-            if n <= 8 {
-                for set in 0u32..1 << (n + 1) {
-                    let ends: Vec<u32> = (1..=n + 1).filter(|e| set >> (e - 1) & 1 == 1).collect();
-                    checker.write_page(&known, edition, &ends, page_bytes(&ends));
-                }
+            for ends in rising_ends(n) {
+                checker.write_page(&known, edition, &ends, page_bytes(&ends));
             }
             for ends in reference::plain_splits(w, reference::turns(edition).unwrap()) {
                 checker.page_sizes(&known, edition, &ends);

@@ -12,7 +12,7 @@ use lib.Dec.{T, leb, ltb, leb→le}
 use lib.ListN.{length, length-append}
 use lib.Seq.{append-snoc}
 use Rattle.laws.proofs.Tests.{and-intro, and-left, and-right}
-use Rattle.decimals.specs.Decimal.{zeroByte, digitsIn, digits, digitCount, plain, digit?, digits?, spelled, value}
+use Rattle.decimals.specs.Decimal.{zeroByte, digitsIn, decimalByte, digits, digitCount, plain, digit?, digits?, spelled, value}
 use Rattle.decimals.specs.Read.{numberIn}
 
 -- ---- tests
@@ -35,7 +35,7 @@ digits-in-length base byte zero x = refl
 digits-in-length base byte (suc k) x = omega (arith, length-append (digitsIn base byte k (x / base)) (byte (x % base) ∷ []), digits-in-length base byte k (x / base))
 
 pub digits-length : (k x : ℕ) → length (digits k x) ≡ k
-digits-length k x = digits-in-length 10 (λ d. zeroByte + d) k x
+digits-length k x = digits-in-length 10 decimalByte k x
 
 digits-append : (xs ys : List ℕ) → T (digits? xs) → T (digits? ys) → T (digits? (xs ++ ys))
 digits-append [] ys a b = b

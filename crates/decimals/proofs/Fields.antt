@@ -1,4 +1,4 @@
--- How many digits a number has, and fields one after another: how long they are, and the first of those from a place on. By the definitions and by induction on
+-- How many digits a number has, numbers that are at most so large, and fields one after another: how long they are, and the first of those from a place on. By the definitions and by induction on
 -- the lists. Assumes nothing.
 use mathlib.Core.Path.{_≡_, refl}
 use mathlib.Core.Bool.{Bool, true, false, cond}
@@ -9,7 +9,7 @@ use native.Mathlib.Numerals.{add-one}
 use lib.Dec.{ltb}
 use lib.ListN.{length, getD, drop, length-append, drop-of-length-le}
 use lib.Seq.{drop-cons}
-use Rattle.decimals.specs.Decimal.{digitCount, plain, fieldsAfter}
+use Rattle.decimals.specs.Decimal.{digitCount, plain, fieldsAfter, AtMost}
 use Rattle.decimals.proofs.Claims.{digits-length}
 
 pub count-most : (most x : ℕ) → digitCount most x ≤ suc most
@@ -20,6 +20,11 @@ count-most (suc most) x = go (ltb x 10) (count-most most (x / 10))
     go : (b : Bool) → digitCount most (x / 10) ≤ suc most → cond b 1 (suc (digitCount most (x / 10))) ≤ suc (suc most)
     go true h = omega arith
     go false h = omega arith
+
+pub at-most-at : (m : ℕ) (xs : List ℕ) (k : ℕ) → AtMost m xs → k < length xs → getD xs k 0 ≤ m
+at-most-at m [] k S h = absurd (omega arith)
+at-most-at m (x ∷ xs) zero S h = S .0
+at-most-at m (x ∷ xs) (suc k) S h = at-most-at m xs k (S .1) (omega arith)
 
 pub plain-long : (x : ℕ) → length (plain x) ≤ 10
 plain-long x = omega (arith, digits-length (digitCount 9 x) x, count-most 9 x)

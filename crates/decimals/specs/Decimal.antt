@@ -1,7 +1,7 @@
 -- Numbers in decimal, as bytes 48 to 57 ("0" to "9"), the highest digit first.
 use mathlib.Core.Bool.{Bool, true, cond, _&&_}
 use mathlib.Core.List.{List, [], _∷_, _++_}
-use Prim.Native.Nat.{ℕ, zero, suc, _+_, _-_, _*_, _/_, _%_}
+use Prim.Native.Nat.{ℕ, zero, suc, _+_, _-_, _*_, _/_, _%_, _≤_}
 use lib.Dec.{leb, ltb}
 use lib.ListN.{take, drop}
 
@@ -22,8 +22,11 @@ digitsIn base byte zero x = []
 digitsIn base byte (suc k) x = digitsIn base byte k (x / base) ++ (byte (x % base) ∷ [])
 
 -- in base ten
+abbrev pub decimalByte : ℕ → ℕ
+decimalByte d = zeroByte + d
+
 abbrev pub digits : ℕ → ℕ → List ℕ
-digits k x = digitsIn 10 (λ d. zeroByte + d) k x
+digits k x = digitsIn 10 decimalByte k x
 
 -- how many digits a number has with no leading zeros, if it has at most `most` more than one
 unfoldable pub digitCount : ℕ → ℕ → ℕ
@@ -38,6 +41,11 @@ plain x = digits (digitCount 9 x) x
 unfoldable pub fieldsAfter : ℕ → List ℕ → List ℕ
 fieldsAfter b [] = []
 fieldsAfter b (x ∷ xs) = b ∷ (plain x ++ fieldsAfter b xs)
+
+-- each number is at most m
+abbrev pub AtMost : ℕ → List ℕ → Type 0
+AtMost m [] = Unit {0}
+AtMost m (x ∷ xs) = (x ≤ m) × AtMost m xs
 
 -- whether a byte is a digit
 abbrev pub digit? : ℕ → Bool

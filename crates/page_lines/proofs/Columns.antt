@@ -13,7 +13,8 @@ use lib.Seq.{sets, drop-cons, take-nil}
 use Rattle.laws.proofs.Stores.{sets-append}
 use Rattle.decimals.specs.Decimal.{digits, digitCount, plain}
 use Rattle.decimals.proofs.Claims.{digits-length, digits-in-length, count-one, plain-shortest}
-use Rattle.page_lines.specs.Line.{widths, widthOf, sum, startOf, numberColumns, lineWidth, space, spaces, rightAligned, columns, hexByte, hexDigits, symbols, bound, Short}
+use Rattle.decimals.proofs.Fields.{at-most-at}
+use Rattle.page_lines.specs.Line.{widths, widthOf, sum, startOf, numberColumns, lineWidth, space, spaces, rightAligned, columns, hexByte, hexDigits, symbols, greatest, LineNumbers}
 
 -- ---- the table
 
@@ -81,7 +82,7 @@ number-width (suc (suc (suc (suc (suc (suc zero)))))) h = refl
 number-width (suc (suc (suc (suc (suc (suc (suc c))))))) h = absurd (omega arith)
 
 -- CLAIM: a number below 100,000 is shorter than its column
-pub number-short : (c x : ℕ) → c < numberColumns → x < bound → length (plain x) < widthOf c
+pub number-short : (c x : ℕ) → c < numberColumns → x ≤ greatest → length (plain x) < widthOf c
 number-short c x l h = rw (number-width c l) (go (decLt x 10))
   where
     go : Dec (x < 10) → length (plain x) < 6
@@ -104,7 +105,7 @@ right-stored t u v at width x k e f g =
     g ∙ ap₂ (λ (l : List ℕ) (b : ℕ). sets l (at + b) (digits k x)) f (sym s) ∙ sym (sets-append t at (spaces (width - k)) (digits k x))
     ∙ ap₂ (λ (b j : ℕ). sets t at (spaces (width - b) ++ digits j x)) (sym d) e
 
-pub columns-none : (ws : List ℕ) → columns ws [] ≡ []
+columns-none : (ws : List ℕ) → columns ws [] ≡ []
 unfolding columns
 columns-none [] = refl
 columns-none (width ∷ ws) = refl
@@ -117,10 +118,9 @@ columns-more ws xs c h k = ap₂ columns (drop-cons ws c 0 h) (drop-cons xs c 0 
 pub columns-done : (ws xs : List ℕ) (c : ℕ) → length xs ≤ c → columns (drop c ws) (drop c xs) ≡ []
 columns-done ws xs c h = ap (columns (drop c ws)) (drop-of-length-le xs {i = c} h) ∙ columns-none (drop c ws)
 
-pub short-at : (xs : List ℕ) (c : ℕ) → Short xs → c < length xs → getD xs c 0 < bound
-short-at [] c S h = absurd (omega arith)
-short-at (x ∷ xs) zero S h = S .0
-short-at (x ∷ xs) (suc c) S h = short-at xs c (S .1) (omega arith)
+-- each number of a line is shorter than its column
+pub line-number-short : (xs : List ℕ) → LineNumbers xs → (c : ℕ) → c < numberColumns → length (plain (getD xs c 0)) < widthOf c
+line-number-short xs N c h = number-short c (getD xs c 0) h (at-most-at greatest xs c (N .1) (omega arith))
 
 -- ---- symbols
 

@@ -2,7 +2,7 @@
 use mathlib.Core.Path.{_≡_, refl}
 use mathlib.Core.List.{[], _∷_}
 use Rattle.decimals.specs.Decimal.{digitsIn, digitCount}
-use Rattle.page_lines.specs.Line.{widths, sum, startOf, numberColumns, lineWidth, lineBytes, space, rightAligned, columns, symbolsShown, symbolDigits, symbols, unitColumn, line, bound}
+use Rattle.page_lines.specs.Line.{widths, sum, startOf, numberColumns, lineWidth, lineBytes, space, rightAligned, columns, symbolsShown, symbolDigits, symbols, unitColumn, line, greatest}
 
 -- "The column widths are six each for number, first, last, unit, turns, rest and run, then eighteen."
 pub the-widths : widths ≡ 6 ∷ 6 ∷ 6 ∷ 6 ∷ 6 ∷ 6 ∷ 6 ∷ 18 ∷ []
@@ -14,7 +14,7 @@ unfolding sum
 the-starts = refl
 
 -- "exactly 60 characters and byte 10", "the first nine passes of the unit, two lower-case hexadecimal digits each"
-pub the-numbers : lineWidth ∷ lineBytes ∷ numberColumns ∷ symbolsShown ∷ symbolDigits ∷ space ∷ bound ∷ [] ≡ 60 ∷ 61 ∷ 7 ∷ 9 ∷ 2 ∷ 32 ∷ 100000 ∷ []
+pub the-numbers : lineWidth ∷ lineBytes ∷ numberColumns ∷ symbolsShown ∷ symbolDigits ∷ space ∷ greatest ∷ [] ≡ 60 ∷ 61 ∷ 7 ∷ 9 ∷ 2 ∷ 32 ∷ 99999 ∷ []
 the-numbers = refl
 
 -- "right-aligned, filled with spaces": 8 and 99,999

@@ -14,9 +14,10 @@ use lib.Seq.{sets, take-at, drop-append-add}
 use Rattle.laws.proofs.Tests.{and-left, and-right}
 use Rattle.decimals.specs.Decimal.{digitsIn, digitCount, plain, digit?, digits?, value, spelled, lineEnd, field}
 use Rattle.decimals.proofs.Claims.{digit-low, digits-are-digits, plain-value}
+use Rattle.decimals.proofs.Fields.{at-most-at}
 use Rattle.writers.proofs.Stores.{stored, left-all, left-less, left-last}
-use Rattle.page_lines.specs.Line.{widths, widthOf, sum, startOf, numberColumns, lineWidth, lineBytes, space, spaces, rightAligned, columns, hexBytes, hexByte, hexDigits, symbolsShown, symbolDigits, symbols, leftAligned, unitColumn, line, NoEnd, OneLine, Short}
-use Rattle.page_lines.proofs.Columns.{start-unit, number-short, right-length, short-at, symbols-length}
+use Rattle.page_lines.specs.Line.{widths, widthOf, sum, startOf, numberColumns, lineWidth, lineBytes, space, spaces, rightAligned, columns, hexBytes, hexByte, hexDigits, symbolsShown, symbolDigits, symbols, leftAligned, unitColumn, line, NoEnd, OneLine, greatest, LineNumbers}
+use Rattle.page_lines.proofs.Columns.{start-unit, right-length, line-number-short, symbols-length}
 
 -- ---- how long the columns are
 
@@ -29,16 +30,16 @@ columns-length (width ∷ ws) [] h l = refl
 columns-length (width ∷ ws) (x ∷ xs) h l =
     omega (arith, length-append (rightAligned width x) (columns ws xs), right-length width x (h 0 (omega arith)), columns-length ws xs (λ c k. h (suc c) (omega arith)) (omega arith))
 
-module _ (numbers : List ℕ) (seven : length numbers ≡ numberColumns) (small : Short numbers) where
+module _ (numbers : List ℕ) (N : LineNumbers numbers) where
   -- each number fits
   fits : (c : ℕ) → c < length numbers → length (plain (getD numbers c 0)) ≤ widthOf c
-  fits c h = omega (arith, number-short c (getD numbers c 0) (omega arith) (short-at numbers c small h))
+  fits c h = omega (arith, line-number-short numbers N c (omega arith))
 
-  pub numbers-length : length (columns widths numbers) ≡ startOf numberColumns
-  numbers-length = columns-length widths numbers fits (omega arith) ∙ ap startOf seven
+  numbers-length : length (columns widths numbers) ≡ startOf numberColumns
+  numbers-length = columns-length widths numbers fits (omega arith) ∙ ap startOf (N .0)
 
 -- the last column is filled up
-pub unit-length : (unit : List ℕ) → length (unitColumn symbolDigits symbolsShown unit) ≡ widthOf numberColumns
+unit-length : (unit : List ℕ) → length (unitColumn symbolDigits symbolsShown unit) ≡ widthOf numberColumns
 unit-length unit =
     let s = symbols symbolDigits (take symbolsShown unit) in
     omega (arith, length-append s (spaces (widthOf numberColumns - length s)), length-replicate (widthOf numberColumns - length s) space, symbols-length symbolDigits (take symbolsShown unit), shown-most unit)
@@ -58,15 +59,15 @@ take-least (suc k) [] = ap (λ (j : ℕ). take {A = ℕ} j []) (min-zero (suc k)
 take-least (suc k) (x ∷ l) = ap (λ (j : ℕ). take j (x ∷ l)) (suc-min-suc k (length l)) ∙ ap (λ (r : List ℕ). x ∷ r) (take-least k l)
 
 -- the numbers, the symbols and the line's end, one after the other
-pub line-stored : (t u v numbers unit : List ℕ) (at s width k : ℕ) → length numbers ≡ numberColumns → Short numbers → u ≡ sets t at (columns widths numbers)
+pub line-stored : (t u v numbers unit : List ℕ) (at s width k : ℕ) → LineNumbers numbers → u ≡ sets t at (columns widths numbers)
     → s ≡ startOf numberColumns → width ≡ widthOf numberColumns → k ≡ min symbolsShown (length unit)
     → v ≡ sets u (at + s) (leftAligned width (symbols symbolDigits (take (k - 0) unit))) → set v (at + lineWidth) lineEnd ≡ sets t at (line numbers unit)
-line-stored t u v numbers unit at s width k seven small e f g h w =
+line-stored t u v numbers unit at s width k N e f g h w =
     let front = columns widths numbers in
     let last = unitColumn symbolDigits symbolsShown unit in
     let shown : take (k - 0) unit ≡ take symbolsShown unit = ap (λ (j : ℕ). take j unit) {x = k - 0} {y = k} (omega arith) ∙ ap (λ (j : ℕ). take j unit) h ∙ take-least symbolsShown unit in
     let w′ : v ≡ sets u (at + startOf numberColumns) last = w ∙ rw (f, g, shown) refl in
-    let A = stored t at front u (at + startOf numberColumns) (ap (λ (n : ℕ). at + n) (sym (numbers-length numbers seven small)), e) in
+    let A = stored t at front u (at + startOf numberColumns) (ap (λ (n : ℕ). at + n) (sym (numbers-length numbers N)), e) in
     let B = stored u (at + startOf numberColumns) last v (at + lineWidth) (omega (arith, unit-length unit, start-unit), w′) in
     let C = stored v (at + lineWidth) (lineEnd ∷ []) (set v (at + lineWidth) lineEnd) (at + lineBytes) (omega arith, refl) in
     left-last (left-less (lineEnd ∷ []) (left-less (last ++ (lineEnd ∷ [])) (left-all t at (line numbers unit) (front ++ (last ++ (lineEnd ∷ []))) (line-is numbers unit)) A) B) C .bytes
@@ -129,25 +130,26 @@ unended-unit unit =
     unended-append s (spaces (widthOf numberColumns - length s)) (unended-symbols symbolDigits (take symbolsShown unit)) (unended-spaces (widthOf numberColumns - length s))
 
 -- CLAIM: a line is one line of exactly 60 characters and byte 10, which stands nowhere else
-pub line-is-one : (numbers unit : List ℕ) → length numbers ≡ numberColumns → Short numbers → OneLine (line numbers unit)
-line-is-one numbers unit seven small =
+pub line-is-one : (numbers unit : List ℕ) → LineNumbers numbers → OneLine (line numbers unit)
+line-is-one numbers unit N =
     let front = columns widths numbers in
     let last = unitColumn symbolDigits symbolsShown unit in
     record {
       characters = front ++ last;
-      wide = omega (arith, length-append front last, numbers-length numbers seven small, unit-length unit, start-unit);
+      wide = omega (arith, length-append front last, numbers-length numbers N, unit-length unit, start-unit);
       unended = unended-append front last (unended-columns widths numbers) (unended-unit unit);
       is = line-is numbers unit ∙ sym (append-assoc front last (lineEnd ∷ []));
     }
 
 -- so it has 61 bytes
-pub line-length : (numbers unit : List ℕ) → length numbers ≡ numberColumns → Short numbers → length (line numbers unit) ≡ lineBytes
-line-length numbers unit seven small =
-    let L = line-is-one numbers unit seven small in
+pub line-length : (numbers unit : List ℕ) → LineNumbers numbers → length (line numbers unit) ≡ lineBytes
+line-length numbers unit N =
+    let L = line-is-one numbers unit N in
     omega (arith, ap length (L .is), length-append (L .characters) (lineEnd ∷ []), L .wide)
 
 -- ---- reading a column
 
+-- a space spells nothing: it stands below the byte of 0, and before the digits
 spaces-spell : (n : ℕ) (bs : List ℕ) → spelled 0 (spaces n ++ bs) ≡ spelled 0 bs
 spaces-spell zero bs = refl
 spaces-spell (suc n) bs = spaces-spell n bs
@@ -171,9 +173,9 @@ column-at (width ∷ ws) (x ∷ xs) rest (suc c) h l m =
     ∙ column-at ws xs rest c (λ d k. h (suc d) (omega arith)) (omega arith) (omega arith)
 
 -- CLAIM: each column of a line reads as its number
-pub column-reads : (numbers unit : List ℕ) → length numbers ≡ numberColumns → Short numbers → (c : ℕ) → c < numberColumns
+pub column-reads : (numbers unit : List ℕ) → LineNumbers numbers → (c : ℕ) → c < numberColumns
     → value (field (line numbers unit) (startOf c) (widthOf c)) ≡ getD numbers c 0
-column-reads numbers unit seven small c h =
+column-reads numbers unit N c h =
     ap (λ (s : List ℕ). value (field s (startOf c) (widthOf c))) (line-is numbers unit)
-    ∙ ap value (column-at widths numbers (unitColumn symbolDigits symbolsShown unit ++ (lineEnd ∷ [])) c (fits numbers seven small) (omega arith) (omega arith))
-    ∙ right-reads (widthOf c) (getD numbers c 0) (omega (arith, short-at numbers c small (omega arith)))
+    ∙ ap value (column-at widths numbers (unitColumn symbolDigits symbolsShown unit ++ (lineEnd ∷ [])) c (fits numbers N) (omega arith) (omega arith))
+    ∙ right-reads (widthOf c) (getD numbers c 0) (omega (arith, at-most-at greatest numbers c (N .1) (omega arith)))

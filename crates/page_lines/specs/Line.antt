@@ -2,9 +2,9 @@
 use mathlib.Core.Path.{_≡_}
 use mathlib.Core.Logic.{_≢_}
 use mathlib.Core.List.{List, [], _∷_, _++_}
-use Prim.Native.Nat.{ℕ, _+_, _-_, _<_}
+use Prim.Native.Nat.{ℕ, _+_, _-_}
 use lib.ListN.{length, getD, take, replicate}
-use Rattle.decimals.specs.Decimal.{digitsIn, plain, lineEnd}
+use Rattle.decimals.specs.Decimal.{digitsIn, plain, lineEnd, AtMost}
 
 -- "The column widths are six each for number, first, last, unit, turns, rest and run, then eighteen."
 abbrev pub widths : List ℕ
@@ -95,10 +95,10 @@ pub record OneLine (s : List ℕ) : Type 0 where
   pub unended : NoEnd characters
   pub is : s ≡ characters ++ (lineEnd ∷ [])
 
--- the numbers that a page may hold; each has a space before it in its column
-abbrev pub bound : ℕ
-bound = 100000
+-- the greatest number that a page may hold; it has a space before it in its column
+abbrev pub greatest : ℕ
+greatest = 99999
 
-abbrev pub Short : List ℕ → Type 0
-Short [] = Unit {0}
-Short (x ∷ xs) = (x < bound) × Short xs
+-- the numbers of a line: one for each of their columns
+abbrev pub LineNumbers : List ℕ → Type 0
+LineNumbers xs = (length xs ≡ numberColumns) × AtMost greatest xs

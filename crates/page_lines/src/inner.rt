@@ -4,7 +4,8 @@ ghost use Prim.Native.Nat.{_≤_, _<_, _+_, _*_, min};
 ghost use lib.ListN.{length};
 ghost use lib.Seq.{sets};
 ghost use Rattle.decimals.specs.Decimal.{plain};
-ghost use Rattle.page_lines.specs.Line.{widths, widthOf, startOf, numberColumns, lineBytes, spaces, rightAligned, hexDigits, symbolsShown, symbolDigits, symbols, leftAligned, columns, line, Short};
+ghost use Rattle.page_lines.specs.Line.{widths, widthOf, startOf, columns, line, lineBytes, LineNumbers};
+ghost use Rattle.page_lines.specs.Line.{spaces, rightAligned, leftAligned, hexDigits, symbolsShown, symbolDigits, symbols};
 use decimals::LINE_END;
 
 // The columns: number, first, last, unit, turns, rest, run, and the symbols of the unit.
@@ -105,7 +106,7 @@ fn put_symbols(out: &mut [u8], at: usize, width: usize, shown: &[u8])
 
 // Writes numbers into their columns.
 fn put_numbers(out: &mut [u8], at: usize, numbers: &[u32])
-    requires { ⌜ (at + lineBytes ≤ length (now out)) × (length (now numbers) ≡ numberColumns) × Short (now numbers) ⌝ }
+    requires { ⌜ (at + lineBytes ≤ length (now out)) × LineNumbers (now numbers) ⌝ }
     ensures { λ _. ⌜ now (out .exit) ≡ sets (now (out .entry)) at (columns widths (now (numbers .entry))) ⌝ }
 {
     let mut c: usize = 0;
@@ -117,7 +118,7 @@ fn put_numbers(out: &mut [u8], at: usize, numbers: &[u32])
 
 // Writes the line of a block's numbers and its unit from place at on.
 pub fn put_line(out: &mut [u8], at: usize, numbers: &[u32], unit: &[u8])
-    requires { ⌜ (at + lineBytes ≤ length (now out)) × (length (now numbers) ≡ numberColumns) × Short (now numbers) ⌝ }
+    requires { ⌜ (at + lineBytes ≤ length (now out)) × LineNumbers (now numbers) ⌝ }
     ensures { λ _. ⌜ now (out .exit) ≡ sets (now (out .entry)) at (line (now (numbers .entry)) (now (unit .entry))) ⌝ }
 {
     let zero: usize = 0;

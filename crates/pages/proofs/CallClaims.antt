@@ -2,25 +2,22 @@
 -- asks (page-means), and accepts exactly when the judge does and 61 bytes a block are lent (page-accepted). By cases on the verdict. Assumes nothing.
 use mathlib.Core.Path.{_≡_, refl, sym, ap, _∙_, subst}
 use mathlib.Core.Logic.{_↔_}
-use mathlib.Core.Bool.{cond}
 use mathlib.Core.List.{List, [], _∷_, _++_}
 use Prim.Native.Nat.{ℕ, _*_, _≤_, _<_}
 use native.Mathlib.Omega.{arith}
 use native.Mathlib.Decide.{decLt}
 use borrow.Author.Tests.{lt-ltb, le-ltb}
-use lib.Dec.{ltb}
 use lib.ListN.{length, drop}
 use Rattle.answers.specs.Outcome.{Outcome, accepted, refused, limit, tableUnless}
 use Rattle.answers.proofs.Claims.{refused-accepted}
 use Rattle.periods.specs.Period.{anyPeriod}
-use Rattle.periods.specs.Edition.{Edition, turnsOf}
-use Rattle.periods.proofs.Editions.{two-turns}
+use Rattle.periods.specs.Edition.{turnsOf}
 use Rattle.factors.specs.Factorization.{Factorization}
 use Rattle.repetitions.specs.Block.{Block}
 use Rattle.repetitions.specs.Judge.{SplitMeaning, splitOutcome}
-use Rattle.repetitions.proofs.Blocks.{factorization-fewer-turns}
-use Rattle.repetitions.proofs.JudgeClaims.{split-means}
-use Rattle.paths.proofs.PathClaims.{accepted-split}
+use Rattle.repetitions.proofs.Blocks.{edition-two-turns}
+use Rattle.repetitions.proofs.JudgeClaims.{split-means, AcceptedSplit, accepted-split}
+use Rattle.writers.specs.Line.{printedOutcome}
 use Rattle.page_lines.specs.Line.{lineBytes}
 use Rattle.pages.specs.Page.{page, pageOutcome, pageTable, PageMeaning, refused-split, too-few, written}
 use Rattle.pages.proofs.PageClaims.{lines-there, page-length}
@@ -29,22 +26,18 @@ use Rattle.pages.proofs.PageClaims.{lines-there, page-length}
 abbrev pub PageGives : List ℕ → ℕ → List ℕ → List ℕ → Outcome → List ℕ → Type 0
 PageGives w edition ends t o u = (o ≡ pageOutcome w edition ends (length t)) × (u ≡ pageTable w edition ends t)
 
+-- the page of a split has 61 bytes a block
+pub bytes : (w : List ℕ) (edition : ℕ) (ends : List ℕ) → length w ≤ limit → Factorization (Block anyPeriod (turnsOf edition) w) (length w) ends → length (page w ends) ≡ lineBytes * length ends
+bytes w edition ends h F = page-length w (omega arith) ends (edition-two-turns edition w (length w) ends F)
+
 module _ (w : List ℕ) (edition : ℕ) (ends t : List ℕ) where
-  -- a split, of blocks of the edition, which have two turns at least
-  pub two-turns-split : Factorization (Block anyPeriod (turnsOf edition) w) (length w) ends → Factorization (Block anyPeriod 2 w) (length w) ends
-  two-turns-split F = factorization-fewer-turns anyPeriod 2 (turnsOf edition) w (length w) ends (two-turns edition) F
-
-  -- its page has 61 bytes a block
-  pub bytes : length w ≤ limit → Factorization (Block anyPeriod (turnsOf edition) w) (length w) ends → length (page w ends) ≡ lineBytes * length ends
-  bytes h F = page-length w (omega arith) ends (two-turns-split F)
-
   pub page-refused : (x i : ℕ) → refused x i ≡ splitOutcome w edition ends → PageGives w edition ends t (refused x i) t
   unfolding pageOutcome pageTable
   page-refused x i e = rw (← e) (refl, refl)
 
   judged : (v : List ℕ) → accepted v ≡ splitOutcome w edition ends
-      → (cond (ltb (length t) (length (page w ends))) (refused 7 0) (accepted (length (page w ends) ∷ [])) ≡ pageOutcome w edition ends (length t))
-      × (tableUnless (cond (ltb (length t) (length (page w ends))) (refused 7 0) (accepted (length (page w ends) ∷ []))) t (page w ends ++ drop (length (page w ends)) t) ≡ pageTable w edition ends t)
+      → (printedOutcome (page w ends) (length t) ≡ pageOutcome w edition ends (length t))
+      × (tableUnless (printedOutcome (page w ends) (length t)) t (page w ends ++ drop (length (page w ends)) t) ≡ pageTable w edition ends t)
   unfolding pageOutcome pageTable
   judged v e = rw (← e) (refl, refl)
 
@@ -64,15 +57,15 @@ module _ (w : List ℕ) (edition : ℕ) (ends t : List ℕ) where
 
       go : (o : Outcome) → o ≡ splitOutcome w edition ends → PageMeaning w edition ends t (pageOutcome w edition ends (length t)) (pageTable w edition ends t)
       go (refused x i) e = by (page-refused x i e) (refused-split x i (subst (SplitMeaning w edition ends) (sym e) (split-means w edition ends)) refl refl)
-      go (accepted v) e = room (decLt (length t) (length (page w ends))) (accepted-split w edition ends t v e)
+      go (accepted v) e = room (decLt (length t) (length (page w ends))) (accepted-split w edition ends v e)
         where
-          room : Dec (length t < length (page w ends)) → (length w ≤ limit) × (v ≡ length ends ∷ []) × Edition edition × Factorization (Block anyPeriod (turnsOf edition) w) (length w) ends
+          room : Dec (length t < length (page w ends)) → AcceptedSplit w edition ends v
               → PageMeaning w edition ends t (pageOutcome w edition ends (length t)) (pageTable w edition ends t)
-          room (yes h) A = by (page-few v e h) (too-few (A .0) (A .2) (A .3) (omega (arith, bytes (A .0) (A .3))) refl refl)
+          room (yes h) A = by (page-few v e h) (too-few (A .0) (A .2) (A .3) (omega (arith, bytes w edition ends (A .0) (A .3))) refl refl)
           room (no h) A =
-              let n = bytes (A .0) (A .3) in
+              let n = bytes w edition ends (A .0) (A .3) in
               by (page-written v e (omega arith))
-              (written (A .0) (A .2) (A .3) (omega arith) (page w ends) (lines-there w (omega arith) ends 0 0 (length w) (omega arith) (two-turns-split (A .3)))
+              (written (A .0) (A .2) (A .3) (omega arith) (page w ends) (lines-there w (omega arith) ends 0 0 (length w) (omega arith) (edition-two-turns edition w (length w) ends (A .3)))
               (ap (λ (b : ℕ). accepted (b ∷ [])) n) (ap (λ (b : ℕ). page w ends ++ drop b t) n))
 
   pub page-answered : (o : Outcome) (u : List ℕ) → PageGives w edition ends t o u → (o ≡ pageOutcome w edition ends (length t)) × ((u ≡ pageTable w edition ends t) × PageMeaning w edition ends t o u)
@@ -88,15 +81,15 @@ module _ (w : List ℕ) (edition : ℕ) (ends t : List ℕ) where
         where
           go : (o : Outcome) → o ≡ splitOutcome w edition ends → (splitOutcome w edition ends ≡ accepted (length ends ∷ [])) × (lineBytes * length ends ≤ length t)
           go (refused x i) e = absurd (refused-accepted (pageOutcome w edition ends (length t)) x i (lineBytes * length ends ∷ []) (sym (page-refused x i e .0)) a)
-          go (accepted v) e = room (decLt (length t) (length (page w ends))) (accepted-split w edition ends t v e)
+          go (accepted v) e = room (decLt (length t) (length (page w ends))) (accepted-split w edition ends v e)
             where
-              room : Dec (length t < length (page w ends)) → (length w ≤ limit) × (v ≡ length ends ∷ []) × Edition edition × Factorization (Block anyPeriod (turnsOf edition) w) (length w) ends
+              room : Dec (length t < length (page w ends)) → AcceptedSplit w edition ends v
                   → (splitOutcome w edition ends ≡ accepted (length ends ∷ [])) × (lineBytes * length ends ≤ length t)
               room (yes h) A = absurd (refused-accepted (pageOutcome w edition ends (length t)) 7 0 (lineBytes * length ends ∷ []) (sym (page-few v e h .0)) a)
-              room (no h) A = (sym e ∙ ap accepted (A .1), omega (arith, bytes (A .0) (A .3)))
+              room (no h) A = (sym e ∙ ap accepted (A .1), omega (arith, bytes w edition ends (A .0) (A .3)))
 
       from : (splitOutcome w edition ends ≡ accepted (length ends ∷ [])) × (lineBytes * length ends ≤ length t) → pageOutcome w edition ends (length t) ≡ accepted (lineBytes * length ends ∷ [])
       from (e, h) =
-          let A = accepted-split w edition ends t (length ends ∷ []) (sym e) in
-          let n = bytes (A .0) (A .3) in
+          let A = accepted-split w edition ends (length ends ∷ []) (sym e) in
+          let n = bytes w edition ends (A .0) (A .3) in
           sym (page-written (length ends ∷ []) (sym e) (omega (arith, n)) .0) ∙ ap (λ (b : ℕ). accepted (b ∷ [])) n

@@ -7,11 +7,12 @@ use native.Mathlib.Omega.{arith}
 use lib.ListN.{length, drop}
 use Rattle.answers.specs.Outcome.{Outcome, accepted, refused}
 use Rattle.repetitions.proofs.Determined.{split-determined}
-use Rattle.paths.proofs.Determined.{factorization-accepted}
+use Rattle.repetitions.proofs.Blocks.{edition-two-turns}
+use Rattle.repetitions.proofs.JudgeClaims.{factorization-accepted}
 use Rattle.page_lines.specs.Line.{lineBytes}
 use Rattle.pages.specs.Page.{page, pageOutcome, pageTable, PageMeaning}
 use Rattle.pages.proofs.PageClaims.{lines-unique}
-use Rattle.pages.proofs.CallClaims.{PageGives, two-turns-split, bytes, page-refused, page-few, page-written}
+use Rattle.pages.proofs.CallClaims.{PageGives, bytes, page-refused, page-few, page-written}
 use Rattle.pages.specs.Page as calls
 
 -- CLAIM: the meaning of write a page determines the answer and the bytes
@@ -25,9 +26,9 @@ page-determined w edition ends t o u M = go M
     go : PageMeaning w edition ends t o u → (o ≡ pageOutcome w edition ends (length t)) × (u ≡ pageTable w edition ends t)
     go (calls.PageMeaning.refused-split x i S a b) = by a b (page-refused w edition ends t x i (split-determined w edition ends (refused x i) S))
     go (calls.PageMeaning.too-few h i F k a b) =
-        by a b (page-few w edition ends t (length ends ∷ []) (factorization-accepted w edition ends h i F) (omega (arith, bytes w edition ends t h F)))
+        by a b (page-few w edition ends t (length ends ∷ []) (factorization-accepted w edition ends h i F) (omega (arith, bytes w edition ends h F)))
     go (calls.PageMeaning.written h i F k s L a b) =
-        let n : length (page w ends) ≡ lineBytes * length ends = bytes w edition ends t h F in
-        let e : s ≡ page w ends = lines-unique w ends 0 0 (length w) s (two-turns-split w edition ends t F) L in
+        let n : length (page w ends) ≡ lineBytes * length ends = bytes w edition ends h F in
+        let e : s ≡ page w ends = lines-unique w ends 0 0 (length w) s (edition-two-turns edition w (length w) ends F) L in
         by (a ∙ ap (λ (m : ℕ). accepted (m ∷ [])) (sym n)) (b ∙ ap₂ (λ (x : List ℕ) (m : ℕ). x ++ drop m t) e (sym n))
         (page-written w edition ends t (length ends ∷ []) (factorization-accepted w edition ends h i F) (omega arith))

@@ -19,7 +19,7 @@ use Rattle.factors.specs.Factorization.{Chain, Factorization, textOfBlocks}
 use Rattle.repetitions.specs.Block.{Block}
 use Rattle.repetitions.proofs.Blocks.{block-up, block-unit}
 use Rattle.paths.proofs.PathClaims.{run-number-segment, run-number-unique}
-use Rattle.page_lines.specs.Line.{line, lineBytes, startOf, widthOf, OneLine, bound, Short}
+use Rattle.page_lines.specs.Line.{line, lineBytes, startOf, widthOf, OneLine, greatest, LineNumbers}
 use Rattle.page_lines.proofs.LineClaims.{line-is-one, line-length, column-reads}
 use Rattle.pages.specs.Page.{pageLine, page, LineOf, Lines}
 
@@ -33,30 +33,30 @@ page-line-is w number i j = refl
 
 -- ---- one line
 
-module _ (w : List ℕ) (short : length w < bound) where
+module _ (w : List ℕ) (short : length w ≤ greatest) where
   -- CLAIM: each number of a block is below 100,000, and so shorter than its column
-  pub numbers-short : (number i j : ℕ) → Piece w i j → number ≤ j → Short (blockNumbers w number i j)
+  pub numbers-short : (number i j : ℕ) → Piece w i j → number ≤ j → LineNumbers (blockNumbers w number i j)
   numbers-short number i j K h =
       let s = part w i j in
       let p = smallestPeriod s in
       let u = block-unit anyPeriod 2 w i j K p refl in
       let l = part-long w i j (K .0) in
-      let number-fits : number < bound = omega (arith, K .0) in
-      let first-fits : suc i < bound = omega (arith, K .0, u .0, u .1) in
-      let last-fits : j < bound = omega (arith, K .0) in
-      let unit-fits : p < bound = omega (arith, K .0, u .1) in
-      let turns-fit : length s / p < bound = omega (arith, K .0, div-le-self (length s) p) in
-      let rest-fits : length s % p < bound = omega (arith, K .0, mod-le (length s) p) in
-      let run-fits : runNumber w i j < bound = omega (arith, run-number-at-most w i j, runs-within w) in
-      (number-fits, (first-fits, (last-fits, (unit-fits, (turns-fit, (rest-fits, (run-fits, tt)))))))
+      let number-fits : number ≤ greatest = omega (arith, K .0) in
+      let first-fits : suc i ≤ greatest = omega (arith, K .0, u .0, u .1) in
+      let last-fits : j ≤ greatest = omega (arith, K .0) in
+      let unit-fits : p ≤ greatest = omega (arith, K .0, u .1) in
+      let turns-fit : length s / p ≤ greatest = omega (arith, K .0, div-le-self (length s) p) in
+      let rest-fits : length s % p ≤ greatest = omega (arith, K .0, mod-le (length s) p) in
+      let run-fits : runNumber w i j ≤ greatest = omega (arith, run-number-at-most w i j, runs-within w) in
+      (refl, (number-fits, (first-fits, (last-fits, (unit-fits, (turns-fit, (rest-fits, (run-fits, tt))))))))
 
   page-line-one : (number i j : ℕ) → Piece w i j → number ≤ j → OneLine (pageLine w number i j)
   page-line-one number i j K h =
-      subst OneLine (page-line-is w number i j) (line-is-one (blockNumbers w number i j) (part w i (i + smallestPeriod (part w i j))) refl (numbers-short number i j K h))
+      subst OneLine (page-line-is w number i j) (line-is-one (blockNumbers w number i j) (part w i (i + smallestPeriod (part w i j))) (numbers-short number i j K h))
 
   pub page-line-length : (number i j : ℕ) → Piece w i j → number ≤ j → length (pageLine w number i j) ≡ lineBytes
   page-line-length number i j K h =
-      ap length (sym (page-line-is w number i j)) ∙ line-length (blockNumbers w number i j) (part w i (i + smallestPeriod (part w i j))) refl (numbers-short number i j K h)
+      ap length (sym (page-line-is w number i j)) ∙ line-length (blockNumbers w number i j) (part w i (i + smallestPeriod (part w i j))) (numbers-short number i j K h)
 
   line-of-block : (number i j : ℕ) → Piece w i j → number ≤ j → LineOf w number i j (pageLine w number i j)
   line-of-block number i j K h =
@@ -93,7 +93,7 @@ unfolding textOfBlocks
 lines-unique w [] k i m s C L = L
 lines-unique w (e ∷ es) k i m s C (first, others, F, R, is) = is ∙ ap₂ (λ (x y : List ℕ). x ++ y) (line-unique w (suc k) i e first (C .0) F) (lines-unique w es (suc k) e m others (C .1) R)
 
-module _ (w : List ℕ) (short : length w < bound) where
+module _ (w : List ℕ) (short : length w ≤ greatest) where
   -- CLAIM: a split has one line of 60 characters and byte 10 for each of its blocks
   pub lines-there : (es : List ℕ) (k i m : ℕ) → k ≤ i → Chain (Piece w) i es m → Lines w k i es (textOfBlocks (pageLine w) k i es)
   unfolding textOfBlocks
@@ -117,7 +117,7 @@ module _ (w : List ℕ) (short : length w < bound) where
   line-reads-end : (number i j : ℕ) → Piece w i j → number ≤ j → value (field (pageLine w number i j) (startOf 2) (widthOf 2)) ≡ j
   line-reads-end number i j K h =
       ap (λ (s : List ℕ). value (field s (startOf 2) (widthOf 2))) (sym (page-line-is w number i j))
-      ∙ column-reads (blockNumbers w number i j) (part w i (i + smallestPeriod (part w i j))) refl (numbers-short w short number i j K h) 2 (omega arith)
+      ∙ column-reads (blockNumbers w number i j) (part w i (i + smallestPeriod (part w i j))) (numbers-short w short number i j K h) 2 (omega arith)
 
   -- where two texts are the same, so are the ends of their first blocks and what follows
   first-same : (es fs : List ℕ) (k i x f : ℕ) → k ≤ i → Piece w i x → Piece w i f

@@ -1,13 +1,10 @@
 -- The page of a split: "Each block of a split becomes one line of exactly 60 characters and byte 10." What the call answers, what it writes, and what that
 -- means.
 use mathlib.Core.Path.{_≡_}
-use mathlib.Core.Bool.{cond}
 use mathlib.Core.List.{List, [], _∷_, _++_}
 use Prim.Native.Nat.{ℕ, suc, _+_, _-_, _*_, _/_, _%_, _≤_, _<_}
-use lib.Dec.{ltb}
 use lib.ListN.{length, drop}
-use Rattle.answers.specs.declared.Refusal.the-variants.{TooFewPlaces}
-use Rattle.answers.specs.Outcome.{Outcome, accepted, refused, refusal, limit, unlessRefused, tableUnless}
+use Rattle.answers.specs.Outcome.{Outcome, accepted, refused, limit, unlessRefused, tableUnless}
 use Rattle.periods.specs.Period.{part, SmallestPeriod, smallestPeriod, anyPeriod}
 use Rattle.periods.specs.Edition.{Edition, turnsOf}
 use Rattle.runs.specs.Number.{blockNumbers}
@@ -15,6 +12,7 @@ use Rattle.factors.specs.Factorization.{Factorization, textOfBlocks}
 use Rattle.repetitions.specs.Block.{Block}
 use Rattle.repetitions.specs.Judge.{SplitMeaning, splitOutcome}
 use Rattle.paths.specs.Graph.{Segment}
+use Rattle.writers.specs.Line.{printedOutcome}
 use Rattle.page_lines.specs.Line.{line, lineBytes, OneLine}
 
 -- the line of the block with a number between boundaries i and j
@@ -28,8 +26,7 @@ page w ends = textOfBlocks (pageLine w) 0 0 ends
 -- "The answer is the count of bytes written." "Errors: judge's order, then 7." So many bytes are lent.
 unfoldable pub pageOutcome : List ℕ → ℕ → List ℕ → ℕ → Outcome
 pageOutcome w edition ends room =
-    unlessRefused (splitOutcome w edition ends)
-    (cond (ltb room (length (page w ends))) (refusal TooFewPlaces) (accepted (length (page w ends) ∷ [])))
+    unlessRefused (splitOutcome w edition ends) (printedOutcome (page w ends) room)
 
 -- only these bytes change, and only when accepted
 unfoldable pub pageTable : List ℕ → ℕ → List ℕ → List ℕ → List ℕ

@@ -1,5 +1,4 @@
-// For this crate's call: the caller shows what each function requires. Two turns are enough for a
-// block to have a run, in any edition.
+// For this crate's call: the caller shows what each function requires.
 ghost use mathlib.Core.Path.{_≡_};
 ghost use Prim.Native.Nat.{_≤_, _+_, _*_};
 ghost use lib.ListN.{length};
@@ -7,8 +6,8 @@ ghost use lib.Seq.{sets};
 ghost use Rattle.answers.specs.Outcome.{limit};
 ghost use Rattle.periods.specs.Period.{part, smallestPeriod, anyPeriod};
 ghost use Rattle.runs.specs.Number.{runNumber};
-ghost use Rattle.factors.specs.Factorization.{Factorization};
 ghost use Rattle.repetitions.specs.Block.{Block};
+ghost use Rattle.paths.specs.Walk.{Factored};
 ghost use Rattle.page_lines.specs.Line.{lineBytes};
 ghost use Rattle.pages.specs.Page.{pageLine, page};
 use page_lines::LINE_BYTES;
@@ -29,7 +28,7 @@ fn write_block(w: &[u8], k: usize, before: usize, end: usize, unit: u32, run: u3
 
 // Writes the lines of the blocks of a factorization to the front of the bytes.
 pub(crate) fn write_lines(w: &[u8], ends: &[u32], out: &mut [u8])
-    requires { ⌜ (length (now w) ≤ limit) × Factorization (Block anyPeriod 2 (now w)) (length (now w)) (now ends) × (lineBytes * length (now ends) ≤ length (now out)) ⌝ }
+    requires { ⌜ Factored (now w) (now ends) × (lineBytes * length (now ends) ≤ length (now out)) ⌝ }
     ensures { λ _. ⌜ now (out .exit) ≡ sets (now (out .entry)) 0 (page (now (w .entry)) (now (ends .entry))) ⌝ }
 {
     let mut units = [0u32; MOST_BLOCKS];

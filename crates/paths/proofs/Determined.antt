@@ -2,35 +2,26 @@
 -- verdict with its meaning is one only, so is a best factorization, and a factorization has one path. By cases on the meanings. Assumes nothing.
 use mathlib.Core.Path.{_≡_, sym, ap, _∙_}
 use mathlib.Core.List.{List, [], _∷_, _++_}
-use Prim.Native.Nat.{ℕ, _≤_}
+use Prim.Native.Nat.{ℕ}
 use native.Mathlib.Omega.{arith}
 use lib.ListN.{length, drop}
-use Rattle.answers.specs.Outcome.{Outcome, accepted, refused, limit}
+use Rattle.answers.specs.Outcome.{Outcome, refused}
 use Rattle.periods.specs.Period.{anyPeriod}
-use Rattle.periods.specs.Edition.{Edition, turnsOf}
+use Rattle.periods.specs.Edition.{turnsOf}
 use Rattle.periods.proofs.Editions.{two-turns}
 use Rattle.factors.specs.Factorization.{Factorization}
-use Rattle.factors.proofs.VerdictClaims.{verdict-means, meaning-determines, accepted-factorization}
-use Rattle.repetitions.specs.Block.{Block, block?}
+use Rattle.factors.proofs.VerdictClaims.{verdict-means, meaning-determines}
+use Rattle.repetitions.specs.Block.{Block}
 use Rattle.paths.specs.Graph.{Node, black, Path, GoTogether, encoding, runsOfPairs, endsOfPairs, Segment}
-use Rattle.repetitions.specs.Judge.{splitOutcome}
 use Rattle.paths.specs.Calls.{runNumbers, pathOutcome, pathTable, PathMeaning, numberGiven, segment?, pathJudgedOutcome, PathJudgedMeaning}
-use Rattle.repetitions.proofs.Blocks.{block-sound, block-complete, block-up}
 use Rattle.paths.proofs.Paths.{edition-one-to-one}
-use Rattle.repetitions.proofs.JudgeClaims.{split-judged}
+use Rattle.repetitions.proofs.JudgeClaims.{factorization-accepted}
 use Rattle.paths.proofs.PathClaims.{numbers-path, PathPromised, path-promised-refused, path-promised-few, path-promised-numbered}
 use Rattle.paths.proofs.PathJudgeClaims.{decides, path-too-long, path-bad-edition, path-odd, path-judged}
 use Rattle.repetitions.proofs.Determined.{split-determined}
 use Rattle.paths.specs.Calls as calls
 
 -- ---- path of a split
-
-pub factorization-accepted : (w : List ℕ) (edition : ℕ) (ends : List ℕ) → length w ≤ limit → Edition edition → Factorization (Block anyPeriod (turnsOf edition) w) (length w) ends
-    → accepted (length ends ∷ []) ≡ splitOutcome w edition ends
-factorization-accepted w edition ends h i F =
-    let k = turnsOf edition in
-    sym (accepted-factorization (block? anyPeriod k w) (Block anyPeriod k w) (block-sound anyPeriod k w) (block-complete anyPeriod k w) (length w) (block-up anyPeriod k w) ends .1 F)
-    ∙ split-judged w edition ends h i
 
 -- the run numbers of a path that goes with the split
 path-numbers : (w : List ℕ) (edition : ℕ) (ends : List ℕ) → Factorization (Block anyPeriod (turnsOf edition) w) (length w) ends

@@ -11,24 +11,22 @@ use borrow.Author.Tests.{lt-ltb, le-ltb, eq-eqb, ne-eqb}
 use lib.Dec.{T, leb, ltb, eqb, leb→le, le→leb, eqb→eq, eqb-refl}
 use lib.ListN.{length, drop}
 use Rattle.laws.proofs.Tests.{and-intro, and-left, and-right}
-use Rattle.answers.proofs.Claims.{refused-accepted}
-use Rattle.answers.specs.Outcome.{Outcome, accepted, refused, limit, tableUnless}
+use Rattle.answers.specs.Outcome.{Outcome, accepted, refused, tableUnless}
 use Rattle.periods.specs.Period.{part, smallestPeriod, anyPeriod}
-use Rattle.periods.specs.Edition.{Edition, turnsOf}
+use Rattle.periods.specs.Edition.{turnsOf}
 use Rattle.periods.proofs.Editions.{two-turns}
 use Rattle.periods.proofs.InPlace.{symbol}
 use Rattle.runs.specs.Table.{runsOf}
 use Rattle.runs.proofs.InPlace.{RunIn}
 use Rattle.factors.specs.Factorization.{Chain, Factorization, ofBlocks}
-use Rattle.factors.specs.Verdict.{VerdictMeaning, bad-end, no-block, unfinished, fine}
 use Rattle.repetitions.specs.Block.{Block}
 use Rattle.paths.specs.Graph.{Node, black, Path, GoTogether, encoding, runsOfPairs, endsOfPairs, Segment, Segments}
-use Rattle.repetitions.specs.Judge.{splitOutcome, SplitMeaning, too-long, bad-edition, judged}
+use Rattle.repetitions.specs.Judge.{splitOutcome, SplitMeaning}
 use Rattle.paths.specs.Calls.{runNumbers, pathOutcome, pathTable, PathMeaning, refused-split, too-few, numbered}
 use Rattle.runs.specs.Number.{encloses?, firstNumber, runNumber}
 use Rattle.paths.specs.Walk.{leftEnd}
 use Rattle.paths.proofs.Encodings.{encodes, encoding-ends, block-segment, segment-one-number, segment-period}
-use Rattle.repetitions.proofs.JudgeClaims.{split-means}
+use Rattle.repetitions.proofs.JudgeClaims.{split-means, AcceptedSplit, accepted-split}
 use Rattle.runs.proofs.Number.{Passes, first-none, first-sound}
 
 -- ---- the number of the run of a block, which has k turns, two at least
@@ -129,24 +127,6 @@ module _ (w : List ℕ) (edition : ℕ) (ends t : List ℕ) where
       → PathPromised w edition ends t (accepted (length ends ∷ [])) (runNumbers w 0 ends ++ drop (length ends) t)
   path-promised-numbered v e h = let p = path-accepts w edition ends t v (sym e) in record { answer = rw (le-ltb (length t) (length ends) h) at (p .0); table = rw (le-ltb (length t) (length ends) h) at (p .1) }
 
-  -- an accepted split is a factorization, with its number of blocks
-  pub accepted-split : (v : List ℕ) → accepted v ≡ splitOutcome w edition ends → (length w ≤ limit) × (v ≡ length ends ∷ []) × Edition edition × Factorization (Block anyPeriod (turnsOf edition) w) (length w) ends
-  accepted-split v e = go (split-means w edition ends)
-    where
-      clash : (x i : ℕ) → splitOutcome w edition ends ≡ refused x i → ⊥
-      clash x i f = refused-accepted (splitOutcome w edition ends) x i v f (sym e)
-
-      go : SplitMeaning w edition ends (splitOutcome w edition ends) → (length w ≤ limit) × (v ≡ length ends ∷ []) × Edition edition × Factorization (Block anyPeriod (turnsOf edition) w) (length w) ends
-      go (too-long h f) = absurd (clash 1 0 f)
-      go (bad-edition h i f) = absurd (clash 12 0 f)
-      go (judged h i J) = by (J .verdict-on)
-        where
-          by : VerdictMeaning (λ k. Block anyPeriod (turnsOf edition) w) (length w) ends (splitOutcome w edition ends) → (length w ≤ limit) × (v ≡ length ends ∷ []) × Edition edition × Factorization (Block anyPeriod (turnsOf edition) w) (length w) ends
-          by (bad-end k a b d f g) = absurd (clash 3 k g)
-          by (no-block k a b d f g x) = absurd (clash 4 k x)
-          by (unfinished a b f) = absurd (clash 5 0 f)
-          by (fine a b f) = let q : v ≡ length ends ∷ [] = cc in (h, q, i, J .accepts .0 f)
-
   -- CLAIM: path of a split says what the documents ask
   pub path-means : PathMeaning w edition ends t (pathOutcome w edition ends (length t)) (pathTable w edition ends t)
   path-means = go (splitOutcome w edition ends) refl
@@ -156,9 +136,9 @@ module _ (w : List ℕ) (edition : ℕ) (ends t : List ℕ) where
 
       go : (o : Outcome) → o ≡ splitOutcome w edition ends → PathMeaning w edition ends t (pathOutcome w edition ends (length t)) (pathTable w edition ends t)
       go (refused x i) e = by (path-promised-refused x i e) (refused-split x i (subst (SplitMeaning w edition ends) (sym e) (split-means w edition ends)) refl refl)
-      go (accepted v) e = room (decLt (length t) (length ends)) (accepted-split v e)
+      go (accepted v) e = room (decLt (length t) (length ends)) (accepted-split w edition ends v e)
         where
-          room : Dec (length t < length ends) → (length w ≤ limit) × (v ≡ length ends ∷ []) × Edition edition × Factorization (Block anyPeriod (turnsOf edition) w) (length w) ends
+          room : Dec (length t < length ends) → AcceptedSplit w edition ends v
               → PathMeaning w edition ends t (pathOutcome w edition ends (length t)) (pathTable w edition ends t)
           room (yes h) A = by (path-promised-few v e h) (too-few (A .0) (A .2) (A .3) h refl refl)
           room (no h) A =

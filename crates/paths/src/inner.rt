@@ -1,5 +1,5 @@
-// For the library's own crates: the caller shows what each function requires. Run numbers are worked out
-// from the symbols: the runs are counted once, for each boundary after which they start, and a
+// For the library's own crates: the caller shows what each function requires. Run numbers are worked
+// out from the symbols: the runs are counted once, for each boundary after which they start, and a
 // look-up lists the runs after one boundary again.
 ghost use mathlib.Core.Path.{_≡_};
 ghost use mathlib.Core.List.{_++_};
@@ -9,16 +9,14 @@ ghost use lib.Seq.{sets};
 ghost use Rattle.answers.specs.Outcome.{countedView, limit};
 ghost use Rattle.periods.specs.Period.{anyPeriod};
 ghost use Rattle.periods.specs.Edition.{Turns};
-ghost use Rattle.factors.specs.Factorization.{Factorization};
 ghost use Rattle.factors.specs.Verdict.{verdict};
 ghost use Rattle.runs.specs.Table.{rowsAt, runsOf, stride, flat, records};
 ghost use Rattle.runs.specs.Number.{firstNumber};
 ghost use Rattle.runs.specs.Inner.{unitsAt, unitsBefore, Scratch};
-ghost use Rattle.repetitions.specs.Block.{Block};
 ghost use Rattle.paths.specs.Graph.{endsOfPairs};
 ghost use Rattle.paths.specs.LookUp.{countsOf, hasPeriod, numberOf, entryOf, foundView, unitsFound, rowsFound, Buffers, Counts};
 ghost use Rattle.paths.specs.Calls.{runNumbers, inRun?, segment?};
-ghost use Rattle.paths.specs.Walk.{leftEnd, blockUnits};
+ghost use Rattle.paths.specs.Walk.{leftEnd, Factored, blockUnits};
 use answers::Counted;
 use answers::Refusal;
 use runs::Record;
@@ -133,9 +131,9 @@ fn left_end(w: &[u8], i: usize, p: usize) -> usize
     a
 }
 
-// Writes the unit of each block of a factorization. Two turns are enough for a block, in any edition.
+// Writes the unit of each block of a factorization.
 pub fn block_units(w: &[u8], ends: &[u32], table: &mut [u32])
-    requires { ⌜ (length (now w) ≤ limit) × Factorization (Block anyPeriod 2 (now w)) (length (now w)) (now ends) × (length (now ends) ≤ length (now table)) ⌝ }
+    requires { ⌜ Factored (now w) (now ends) × (length (now ends) ≤ length (now table)) ⌝ }
     ensures { λ _. ⌜ now (table .exit) ≡ blockUnits (now (w .entry)) 0 (now (ends .entry)) ++ drop (length (now (ends .entry))) (now (table .entry)) ⌝ }
 {
     let mut before: usize = 0;
@@ -148,10 +146,9 @@ pub fn block_units(w: &[u8], ends: &[u32], table: &mut [u32])
     }
 }
 
-// Puts the number of its run in the place of the unit of each block of a factorization. Two turns are
-// enough for a block to have a run.
+// Puts the number of its run in the place of the unit of each block of a factorization.
 pub fn number_blocks(w: &[u8], ends: &[u32], table: &mut [u32])
-    requires { ⌜ (length (now w) ≤ limit) × Factorization (Block anyPeriod 2 (now w)) (length (now w)) (now ends) × (length (now ends) ≤ length (now table)) ⌝ }
+    requires { ⌜ Factored (now w) (now ends) × (length (now ends) ≤ length (now table)) ⌝ }
     requires { ⌜ take (length (now ends)) (now table) ≡ blockUnits (now w) 0 (now ends) ⌝ }
     ensures { λ _. ⌜ now (table .exit) ≡ runNumbers (now (w .entry)) 0 (now (ends .entry)) ++ drop (length (now (ends .entry))) (now (table .entry)) ⌝ }
 {

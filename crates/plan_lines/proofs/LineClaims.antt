@@ -15,6 +15,7 @@ use lib.Seq.{take-suc, take-length, drop-cons, take-at, drop-at, drop-drop, getD
 use Rattle.laws.proofs.Tests.{T-true, and-intro, and-left, and-right}
 use Rattle.decimals.specs.Decimal.{comma, lineEnd, digits, digits?, value, field}
 use Rattle.decimals.proofs.Claims.{digits-length, digits-are-digits, digits-value, value-digits, value-bound}
+use Rattle.decimals.proofs.Fields.{at-most-at}
 use Rattle.decimals.proofs.Loops.{field-length}
 use Rattle.plan_lines.specs.Line.{planBytes, width, greatest, fields, line, Small, IsLine, placeOfLength, placeOfCount, step, bytesFor, placeOfEnd, numberAt, field?, ends?, startsWith, line?, endsIn}
 use Rattle.plan_lines.proofs.Loops.{fields-append, fields-length, field-is, field-digits, field-comma, ends-length}
@@ -121,11 +122,6 @@ module _ (s front : List ℕ) (x : ℕ) (back : List ℕ) (at : ℕ) (is : s ≡
   pub shown-number : x ≤ greatest → numberAt s at ≡ x
   shown-number h = ap value shown-digits ∙ digits-value width x (omega arith)
 
-small-at : (xs : List ℕ) (k : ℕ) → Small xs → k < length xs → getD xs k 0 ≤ greatest
-small-at [] k S h = absurd (omega arith)
-small-at (x ∷ xs) zero S h = S .0
-small-at (x ∷ xs) (suc k) S h = small-at xs k (S .1) (omega arith)
-
 small-snoc : (xs : List ℕ) (x : ℕ) → Small xs → x ≤ greatest → Small (xs ++ x ∷ [])
 small-snoc [] x S h = (h, tt)
 small-snoc (y ∷ xs) x S h = (S .0, small-snoc xs x (S .1) h)
@@ -166,7 +162,7 @@ module _ (s : List ℕ) (n : ℕ) (ends : List ℕ) (L : IsLine s n ends) where
   ends-read zero h = refl
   ends-read (suc k) h =
       ap₂ (λ (l : List ℕ) (x : ℕ). l ++ x ∷ []) (ends-read k (omega arith))
-      (shown-number s (head n (length ends) ++ fields (take k ends)) (getD ends k 0) (fields (drop (suc k) ends) ++ lineEnd ∷ []) (placeOfEnd k) (end-cut k h) (front-long k h) (small-at ends k (L .small-ends) h))
+      (shown-number s (head n (length ends) ++ fields (take k ends)) (getD ends k 0) (fields (drop (suc k) ends) ++ lineEnd ∷ []) (placeOfEnd k) (end-cut k h) (front-long k h) (at-most-at greatest ends k (L .small-ends) h))
       ∙ sym (take-suc ends k 0 h)
 
   count-long : suc (length (planBytes ++ digits width n)) ≡ placeOfCount

@@ -6,7 +6,7 @@ use mathlib.Core.List.{List, [], _∷_, _++_}
 use Prim.Native.Nat.{ℕ, zero, suc, _+_, _-_, _*_, _≤_}
 use lib.Dec.{eqb}
 use lib.ListN.{length, getD}
-use Rattle.decimals.specs.Decimal.{comma, lineEnd, digits, digits?, value, field}
+use Rattle.decimals.specs.Decimal.{comma, lineEnd, digits, AtMost, digits?, value, field}
 
 -- p l a n ,
 abbrev pub planBytes : List ℕ
@@ -31,8 +31,7 @@ line n ends = planBytes ++ (digits width n ++ (fields (length ends ∷ ends) ++ 
 
 -- each number has at most four digits
 abbrev pub Small : List ℕ → Type 0
-Small [] = Unit {0}
-Small (x ∷ xs) = (x ≤ greatest) × Small xs
+Small xs = AtMost greatest xs
 
 -- the bytes are the line of n and ends, numbers of at most four digits
 pub record IsLine (s : List ℕ) (n : ℕ) (ends : List ℕ) : Type 0 where

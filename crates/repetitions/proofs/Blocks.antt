@@ -12,7 +12,9 @@ use lib.Dec.{T, leb, leb→le, le→leb}
 use lib.ListN.{length, take, length-take}
 use lib.Seq.{getD-take, ext-getD}
 use Rattle.laws.proofs.Tests.{and-intro, and-left, and-right}
-use Rattle.periods.specs.Period.{part, smallestPeriod, Repetition, repetition?}
+use Rattle.periods.specs.Period.{part, smallestPeriod, anyPeriod, Repetition, repetition?}
+use Rattle.periods.specs.Edition.{turnsOf}
+use Rattle.periods.proofs.Editions.{two-turns}
 use Rattle.periods.proofs.InPlace.{SmallestIn, symbol, Placed, placed-part, part-smallest-in, part-smallest-out}
 use Rattle.periods.proofs.Claims.{part-smallest, repetition-sound, repetition-complete}
 use Rattle.factors.specs.Factorization.{Chain, Factorization}
@@ -85,9 +87,13 @@ block-fewer-turns allowed m k w i j h K = (
   record { period = K .1 .period; smallest = K .1 .smallest; long = omega (arith, mul-le-mul-right (K .1 .period) h, K .1 .long); permitted = K .1 .permitted },
 )
 
-pub factorization-fewer-turns : (allowed : ℕ → Bool) (m k : ℕ) (w : List ℕ) (n : ℕ) (es : List ℕ) → m ≤ k → Factorization (Block allowed k w) n es
+factorization-fewer-turns : (allowed : ℕ → Bool) (m k : ℕ) (w : List ℕ) (n : ℕ) (es : List ℕ) → m ≤ k → Factorization (Block allowed k w) n es
     → Factorization (Block allowed m w) n es
 factorization-fewer-turns allowed m k w n es h = chain-map (Block allowed k w) (Block allowed m w) (λ i j. block-fewer-turns allowed m k w i j h) 0 es n
+
+-- an edition's blocks have two turns at least
+pub edition-two-turns : (edition : ℕ) (w : List ℕ) (n : ℕ) (es : List ℕ) → Factorization (Block anyPeriod (turnsOf edition) w) n es → Factorization (Block anyPeriod 2 w) n es
+edition-two-turns edition w n es = factorization-fewer-turns anyPeriod 2 (turnsOf edition) w n es (two-turns edition)
 
 -- ---- prefixes
 

@@ -12,27 +12,27 @@ use Rattle.periods.specs.Period.{anyPeriod}
 use Rattle.factors.specs.Factorization.{Factorization}
 use Rattle.repetitions.specs.Block.{Block}
 use Rattle.repetitions.specs.Judge.{splitOutcome}
-use Rattle.repetitions.proofs.Blocks.{half}
-use Rattle.paths.proofs.PathClaims.{accepted-split}
+use Rattle.repetitions.proofs.Blocks.{half, edition-two-turns}
+use Rattle.repetitions.proofs.JudgeClaims.{accepted-split}
 use Rattle.page_lines.specs.Line.{lineBytes}
 use Rattle.pages.specs.Page.{page}
-use Rattle.pages.proofs.CallClaims.{two-turns-split, bytes, page-refused, page-few, page-written, page-answered}
+use Rattle.pages.proofs.CallClaims.{bytes, page-refused, page-few, page-written, page-answered}
 use Rattle.pages.proofs.write_page.Statement.{statement}
 use Rattle.pages.proofs.write_page.Tie as tie
 
 -- what the judge accepts with a number of blocks is a split of so many, and its page has 61 bytes each
-module _ (w : List ℕ) (edition : ℕ) (ends t : List ℕ) (blocks : ℕ) (e : accepted (blocks ∷ []) ≡ splitOutcome w edition ends) where
+module _ (w : List ℕ) (edition : ℕ) (ends : List ℕ) (blocks : ℕ) (e : accepted (blocks ∷ []) ≡ splitOutcome w edition ends) where
   within : length w ≤ limit
-  within = accepted-split w edition ends t (blocks ∷ []) e .0
+  within = accepted-split w edition ends (blocks ∷ []) e .0
 
   split : Factorization (Block anyPeriod 2 w) (length w) ends
-  split = two-turns-split w edition ends t (accepted-split w edition ends t (blocks ∷ []) e .3)
+  split = edition-two-turns edition w (length w) ends (accepted-split w edition ends (blocks ∷ []) e .3)
 
   counted : blocks ≡ length ends
-  counted = head-eq-of-cons-eq (accepted-split w edition ends t (blocks ∷ []) e .1)
+  counted = head-eq-of-cons-eq (accepted-split w edition ends (blocks ∷ []) e .1)
 
   size : length (page w ends) ≡ lineBytes * blocks
-  size = bytes w edition ends t within (accepted-split w edition ends t (blocks ∷ []) e .3) ∙ ap (λ (n : ℕ). lineBytes * n) (sym counted)
+  size = bytes w edition ends within (accepted-split w edition ends (blocks ∷ []) e .3) ∙ ap (λ (n : ℕ). lineBytes * n) (sym counted)
 
 judge-split-requires : tie.Need-judge-split-requires
 judge-split-requires c κs = search needs
@@ -54,21 +54,21 @@ returns c =
     let g = c .before .before .before .before .before .before .before .before .args in
     let e = ap countedView (sym (c .before .before .verdict2 .given .1)) ∙ c .before .before .before .before .judge-split .ensures .0 in
     page-answered (g .w .now) (g .edition) (g .ends .now) (g .out .now) _ _
-    (page-few (g .w .now) (g .edition) (g .ends .now) (g .out .now) _ e (omega (arith, size (g .w .now) (g .edition) (g .ends .now) (g .out .now) _ e, c .if1 .taken)))
+    (page-few (g .w .now) (g .edition) (g .ends .now) (g .out .now) _ e (omega (arith, size (g .w .now) (g .edition) (g .ends .now) _ e, c .if1 .taken)))
 
 write-lines-requires : tie.Need-write-lines-requires
 write-lines-requires c κs =
     let g = c .before .before .before .before .before .before .before .before .before .args in
     let e = ap countedView (sym (c .before .before .before .verdict2 .given .1)) ∙ c .before .before .before .before .before .judge-split .ensures .0 in
-    let S = split (g .w .now) (g .edition) (g .ends .now) (g .out .now) _ e in
-    (within (g .w .now) (g .edition) (g .ends .now) (g .out .now) _ e, S, omega (arith, counted (g .w .now) (g .edition) (g .ends .now) (g .out .now) _ e, c .before .if1 .left))
+    let S = split (g .w .now) (g .edition) (g .ends .now) _ e in
+    ((within (g .w .now) (g .edition) (g .ends .now) _ e, S), omega (arith, counted (g .w .now) (g .edition) (g .ends .now) _ e, c .before .if1 .left))
 
 cast-t16 : tie.Need-cast-t16
 cast-t16 c =
     let g = c .before .before .before .before .before .before .before .before .before .before .before .before .args in
     let e = ap countedView (sym (c .before .before .before .before .before .before .verdict2 .given .1)) ∙ c .before .before .before .before .before .before .before .before .judge-split .ensures .0 in
-    let few = half anyPeriod 2 (g .w .now) (omega arith) 0 (g .ends .now) (length (g .w .now)) (split (g .w .now) (g .edition) (g .ends .now) (g .out .now) _ e) in
-    omega (arith, few, counted (g .w .now) (g .edition) (g .ends .now) (g .out .now) _ e, within (g .w .now) (g .edition) (g .ends .now) (g .out .now) _ e)
+    let few = half anyPeriod 2 (g .w .now) (omega arith) 0 (g .ends .now) (length (g .w .now)) (split (g .w .now) (g .edition) (g .ends .now) _ e) in
+    omega (arith, few, counted (g .w .now) (g .edition) (g .ends .now) _ e, within (g .w .now) (g .edition) (g .ends .now) _ e)
 
 returns-2 : tie.Need-returns-2
 returns-2 c =
@@ -83,7 +83,7 @@ returns-3 : tie.Need-returns-3
 returns-3 c =
     let g = c .before .before .before .before .before .before .before .before .before .before .before .before .args in
     let e = ap countedView (sym (c .before .before .before .before .before .before .verdict2 .given .1)) ∙ c .before .before .before .before .before .before .before .before .judge-split .ensures .0 in
-    let n = size (g .w .now) (g .edition) (g .ends .now) (g .out .now) _ e in
+    let n = size (g .w .now) (g .edition) (g .ends .now) _ e in
     let room : length (page (g .w .now) (g .ends .now)) ≤ length (g .out .now) = omega (arith, n, c .before .before .before .before .if1 .left) in
     let P = page-written (g .w .now) (g .edition) (g .ends .now) (g .out .now) _ e room in
     page-answered (g .w .now) (g .edition) (g .ends .now) (g .out .now) _ _

@@ -4,11 +4,9 @@ use mathlib.Core.Path.{sym, ap, _∙_}
 use borrow.Author.Needs.{needs}
 use lib.ListN.{length}
 use Rattle.answers.specs.Outcome.{countedView, accepted}
-use Rattle.periods.specs.Period.{anyPeriod}
-use Rattle.periods.specs.Edition.{turnsOf}
-use Rattle.periods.proofs.Editions.{two-turns}
-use Rattle.repetitions.proofs.Blocks.{factorization-fewer-turns}
-use Rattle.paths.proofs.PathClaims.{path-promised-refused, path-promised-few, path-promised-numbered, accepted-split, path-answered}
+use Rattle.repetitions.proofs.Blocks.{edition-two-turns}
+use Rattle.repetitions.proofs.JudgeClaims.{accepted-split}
+use Rattle.paths.proofs.PathClaims.{path-promised-refused, path-promised-few, path-promised-numbered, path-answered}
 use Rattle.paths.proofs.NumberLaws.{units-room, units-stand, numbers-stand}
 use Rattle.paths.proofs.path_of_split.Statement.{statement}
 use Rattle.paths.proofs.path_of_split.Tie as tie
@@ -31,20 +29,16 @@ returns c =
 block-units-requires : tie.Need-block-units-requires
 block-units-requires c κs =
     let g = c .before .before .before .before .before .before .before .before .before .args in
-    let A = accepted-split (g .w .now) (g .edition) (g .ends .now) (g .table .now) _ (ap countedView (sym (c .before .before .before .verdict2 .given .1)) ∙ c .before .before .before .before .before .judge-split .ensures .0) in
-    (A .0, factorization-fewer-turns anyPeriod 2 (turnsOf (g .edition)) (g .w .now) (length (g .w .now)) (g .ends .now) (two-turns (g .edition)) (A .3), c .before .if1 .left)
+    let A = accepted-split (g .w .now) (g .edition) (g .ends .now) _ (ap countedView (sym (c .before .before .before .verdict2 .given .1)) ∙ c .before .before .before .before .before .judge-split .ensures .0) in
+    ((A .0, edition-two-turns (g .edition) (g .w .now) (length (g .w .now)) (g .ends .now) (A .3)), c .before .if1 .left)
 
 number-blocks-requires : tie.Need-number-blocks-requires
 number-blocks-requires c κs =
     let g = c .before .before .before .before .before .before .before .before .before .before .before .before .before .args in
-    let A = accepted-split (g .w .now) (g .edition) (g .ends .now) (g .table .now) _ (ap countedView (sym (c .before .before .before .before .before .before .before .verdict2 .given .1)) ∙ c .before .before .before .before .before .before .before .before .before .judge-split .ensures .0) in
+    let A = accepted-split (g .w .now) (g .edition) (g .ends .now) _ (ap countedView (sym (c .before .before .before .before .before .before .before .verdict2 .given .1)) ∙ c .before .before .before .before .before .before .before .before .before .judge-split .ensures .0) in
     let U = c .before .before .before .block-units .ensures in
     let room = c .before .before .before .before .before .if1 .left in (
-      (
-        A .0,
-        factorization-fewer-turns anyPeriod 2 (turnsOf (g .edition)) (g .w .now) (length (g .w .now)) (g .ends .now) (two-turns (g .edition)) (A .3),
-        units-room (g .w .now) (g .ends .now) (g .table .now) _ room U,
-      ),
+      ((A .0, edition-two-turns (g .edition) (g .w .now) (length (g .w .now)) (g .ends .now) (A .3)), units-room (g .w .now) (g .ends .now) (g .table .now) _ room U),
       units-stand (g .w .now) (g .ends .now) (g .table .now) _ room U,
     )
 
@@ -61,7 +55,7 @@ returns-3 : tie.Need-returns-3
 returns-3 c =
     let g = c .before .before .before .before .before .before .before .before .before .before .before .before .before .before .before .before .args in
     let e = ap countedView (sym (c .before .before .before .before .before .before .before .before .before .before .verdict2 .given .1)) ∙ c .before .before .before .before .before .before .before .before .before .before .before .before .judge-split .ensures .0 in
-    let A = accepted-split (g .w .now) (g .edition) (g .ends .now) (g .table .now) _ e in
+    let A = accepted-split (g .w .now) (g .edition) (g .ends .now) _ e in
     let room = c .before .before .before .before .before .before .before .before .if1 .left in
     let P = path-promised-numbered (g .w .now) (g .edition) (g .ends .now) (g .table .now) _ e room in
     let N = numbers-stand (g .w .now) (g .ends .now) (g .table .now) _ room (c .before .before .before .before .before .before .block-units .ensures) _ (c .before .before .number-blocks .ensures) in

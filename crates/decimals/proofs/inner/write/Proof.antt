@@ -4,7 +4,7 @@ use Prim.Native.Nat.{ℕ, suc, _+_, _-_, _%_, _≤_}
 use native.Mathlib.Omega.{arith}
 use lib.ListN.{length, length-set}
 use lib.Seq.{sets}
-use Rattle.decimals.specs.Decimal.{zeroByte, digits}
+use Rattle.decimals.specs.Decimal.{zeroByte, decimalByte, digits}
 use Rattle.decimals.proofs.Loops.{write-more, write-done}
 use Rattle.decimals.proofs.inner.write.Statement.{statement}
 use Rattle.decimals.proofs.inner.write.Tie as tie
@@ -43,7 +43,7 @@ loop-again c =
     let e : suc (l .i - 1) ≡ l .i = omega arith in (
       omega arith,
       length-set (l .out) (g .at + (l .i - 1)) (zeroByte + l .rest % 10) ∙ l .inv .1,
-      sym (write-more 10 (λ d. zeroByte + d) (l .out) (g .at) (l .i - 1) (l .rest)) ∙ ap (λ (j : ℕ). sets (l .out) (g .at) (digits j (l .rest))) e ∙ l .inv .2,
+      sym (write-more 10 decimalByte (l .out) (g .at) (l .i - 1) (l .rest)) ∙ ap (λ (j : ℕ). sets (l .out) (g .at) (digits j (l .rest))) e ∙ l .inv .2,
     )
 
 same-length : tie.Need-same-length Inv-loop μ-loop
@@ -54,7 +54,7 @@ returns c =
     let l = c .before .loop in
     let g = c .before .before .args in
     let e : l .i ≡ 0 = omega arith in
-    sym (write-done 10 (λ d. zeroByte + d) (l .out) (g .at) (l .rest)) ∙ ap (λ (j : ℕ). sets (l .out) (g .at) (digits j (l .rest))) (sym e) ∙ l .inv .2
+    sym (write-done 10 decimalByte (l .out) (g .at) (l .rest)) ∙ ap (λ (j : ℕ). sets (l .out) (g .at) (digits j (l .rest))) (sym e) ∙ l .inv .2
 
 pub write-spec : {M : Type 1} → statement M
 write-spec =

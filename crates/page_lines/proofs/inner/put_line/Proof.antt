@@ -54,7 +54,7 @@ same-length c =
 returns : tie.Need-returns
 returns c =
     let g = c .before .before .before .before .before .before .before .before .before .before .before .before .before .before .before in
-    line-stored (g .args .out .now) _ _ (g .args .numbers .now) (g .args .unit .now) (g .args .at) _ _ _ (g .pre .1) (g .pre .2)
+    line-stored (g .args .out .now) _ _ (g .args .numbers .now) (g .args .unit .now) (g .args .at) _ _ _ (g .pre .1)
     (c .before .before .before .before .before .before .before .before .before .put-numbers .ensures) (c .before .before .before .before .before .start .ensures) (c .before .before .before .before .width .ensures)
     (c .before .before .before .before .before .before .before .before .before .before .before .shown-of .ensures) (c .before .before .put-symbols .ensures)
 

@@ -7,7 +7,7 @@ use lib.ListN.{length, getD, drop}
 use lib.Seq.{sets}
 use Rattle.writers.proofs.Stores.{Left, stored, stored-length, left-all, left-as, left-less, left-none}
 use Rattle.page_lines.specs.Line.{widths, widthOf, startOf, numberColumns, rightAligned, columns}
-use Rattle.page_lines.proofs.Columns.{start-first, start-next, column-within, number-short, right-length, columns-more, columns-done, short-at}
+use Rattle.page_lines.proofs.Columns.{start-first, start-next, column-within, line-number-short, right-length, columns-more, columns-done}
 use Rattle.page_lines.proofs.inner.put_numbers.Statement.{statement}
 use Rattle.page_lines.proofs.inner.put_numbers.Tie as tie
 
@@ -48,8 +48,7 @@ put-number-requires : tie.Need-put-number-requires Inv-loop μ-loop
 put-number-requires c κs =
     let g = c .before .before .before .before .before .before .before .before in
     let l = c .before .before .before .before .before .loop in
-    let x = getD (g .args .numbers .now) (l .c) 0 in
-    let short = number-short (l .c) x (omega arith) (short-at (g .args .numbers .now) (l .c) (g .pre .2) (omega arith)) in
+    let short = line-number-short (g .args .numbers .now) (g .pre .1) (l .c) (omega arith) in
     (omega (arith, inside (c .before .before), c .before .width .ensures), omega (arith, short, c .before .width .ensures))
 
 add-c : tie.Need-add-c Inv-loop μ-loop
@@ -64,7 +63,7 @@ loop-again c =
     let l = c .before .before .before .before .before .before .before .before .loop in
     let xs = g .args .numbers .now in
     let x = getD xs (l .c) 0 in
-    let short = number-short (l .c) x (omega arith) (short-at xs (l .c) (g .pre .2) (omega arith)) in
+    let short = line-number-short xs (g .pre .1) (l .c) (omega arith) in
     let from : c .before .before .before .before .before .start .result ≡ startOf (l .c) = c .before .before .before .before .before .start .ensures in
     let wide : c .before .before .before .before .width .result ≡ widthOf (l .c) = c .before .before .before .before .width .ensures in
     let S = stored (l .out) (g .args .at + startOf (l .c)) (rightAligned (widthOf (l .c)) x) _ (g .args .at + startOf (l .c + 1))

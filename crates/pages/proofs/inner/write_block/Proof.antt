@@ -3,13 +3,12 @@ use mathlib.Core.Path.{_≡_, sym, ap, ap₂, subst, _∙_}
 use Prim.Native.Nat.{ℕ, _+_, _*_, _≤_, _<_}
 use native.Mathlib.Omega.{arith}
 use borrow.Author.Needs.{needs}
-use lib.ListN.{length}
 use lib.Seq.{sets}
 use Rattle.periods.specs.Period.{part, anyPeriod}
 use Rattle.runs.specs.Number.{blockNumbers}
 use Rattle.runs.proofs.Number.{block-numbers-are}
 use Rattle.repetitions.proofs.Blocks.{block-up, block-unit}
-use Rattle.page_lines.specs.Line.{lineBytes, line, Short}
+use Rattle.page_lines.specs.Line.{lineBytes, line, LineNumbers}
 use Rattle.pages.proofs.PageClaims.{numbers-short, page-line-is}
 use Rattle.pages.proofs.inner.write_block.Statement.{statement}
 use Rattle.pages.proofs.inner.write_block.Tie as tie
@@ -60,8 +59,7 @@ put-line-requires c κs =
     let g = c .before .before .before .before .before .before in
     let n = numbers (c .before .before .before) in (
       omega (arith, g .pre .0 .3),
-      ap length n,
-      subst Short (sym n) (numbers-short (g .args .w .now) (omega (arith, g .pre .0 .1)) (g .args .k + 1) (g .args .before) (g .args .end) (g .pre .0 .2) (omega (arith, up g, g .pre .0 .0))),
+      subst LineNumbers (sym n) (numbers-short (g .args .w .now) (omega (arith, g .pre .0 .1)) (g .args .k + 1) (g .args .before) (g .args .end) (g .pre .0 .2) (omega (arith, up g, g .pre .0 .0))),
     )
 
 same-length : tie.Need-same-length

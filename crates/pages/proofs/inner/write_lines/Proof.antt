@@ -6,13 +6,13 @@ use Prim.Native.Nat.{ℕ, _+_, _-_, _*_, _≤_, _<_}
 use native.Mathlib.Omega.{arith}
 use lib.ListN.{length, getD, drop, replicate, length-replicate}
 use Rattle.laws.proofs.Stores.{lent-long}
-use Rattle.answers.specs.Outcome.{limit}
 use Rattle.periods.specs.Period.{part, smallestPeriod, anyPeriod}
 use Rattle.runs.specs.Number.{runNumber}
-use Rattle.factors.specs.Factorization.{Factorization, textOfBlocks}
+use Rattle.factors.specs.Factorization.{textOfBlocks}
 use Rattle.factors.proofs.BlockByBlock.{Taken, none-taken, next-block, next-in-table, one-more-taken, text-more, text-done}
 use Rattle.repetitions.specs.Block.{Block}
 use Rattle.repetitions.proofs.Blocks.{block-up, half}
+use Rattle.paths.specs.Walk.{Factored}
 use Rattle.paths.proofs.NumberLaws.{units-room, units-stand}
 use Rattle.writers.proofs.Stores.{Left, stored, stored-length, left-all, left-as, left-less, left-none}
 use Rattle.page_lines.specs.Line.{lineBytes}
@@ -34,8 +34,8 @@ abbrev μ-loop : tie.MeasureT-loop
 μ-loop w ends out₀ units numbers before₀ k₀ out before k = length ends - k
 
 -- there is a place for each block
-few : (w ends : List ℕ) → length w ≤ limit → Factorization (Block anyPeriod 2 w) (length w) ends → length ends ≤ most-blocks
-few w ends h F = omega (arith, half anyPeriod 2 w (omega arith) 0 ends (length w) F)
+few : (w ends : List ℕ) → Factored w ends → length ends ≤ most-blocks
+few w ends F = omega (arith, F .0, half anyPeriod 2 w (omega arith) 0 ends (length w) (F .1))
 
 slice-aggregate-block-units : tie.Need-slice-aggregate-block-units Inv-loop μ-loop
 slice-aggregate-block-units c = refl
@@ -43,7 +43,7 @@ slice-aggregate-block-units c = refl
 block-units-requires : tie.Need-block-units-requires Inv-loop μ-loop
 block-units-requires c κs =
     let g = c .before .before .before .before in
-    (g .pre .0, g .pre .1, few (g .args .w .now) (g .args .ends .now) (g .pre .0) (g .pre .1))
+    (g .pre .0, few (g .args .w .now) (g .args .ends .now) (g .pre .0))
 
 slice-aggregate-number-blocks : tie.Need-slice-aggregate-number-blocks Inv-loop μ-loop
 slice-aggregate-number-blocks c = let u = c .before .before .block-units in sym (lent-long most-blocks (u .last .1 .1 .0) (u .kept .1 .1 .0))
@@ -54,11 +54,11 @@ number-blocks-requires c κs =
     let w = g .args .w .now in
     let ends = g .args .ends .now in
     let U = c .before .before .block-units .ensures in
-    let room : length ends ≤ length {A = ℕ} (replicate most-blocks 0) = omega (arith, few w ends (g .pre .0) (g .pre .1), length-replicate {A = ℕ} most-blocks 0) in
-    ((g .pre .0, g .pre .1, units-room w ends (replicate most-blocks 0) _ room U), units-stand w ends (replicate most-blocks 0) _ room U)
+    let room : length ends ≤ length {A = ℕ} (replicate most-blocks 0) = omega (arith, few w ends (g .pre .0), length-replicate {A = ℕ} most-blocks 0) in
+    ((g .pre .0, units-room w ends (replicate most-blocks 0) _ room U), units-stand w ends (replicate most-blocks 0) _ room U)
 
 loop-holds : tie.Need-loop-holds Inv-loop μ-loop
-loop-holds c = let g = c .before .before .before .before .before .before .before .before .before in (omega arith, refl, none-taken (g .pre .1), left-all (g .args .out .now) 0 (page (g .args .w .now) (g .args .ends .now)) _ refl)
+loop-holds c = let g = c .before .before .before .before .before .before .before .before .before in (omega arith, refl, none-taken (g .pre .0 .1), left-all (g .args .out .now) 0 (page (g .args .w .now) (g .args .ends .now)) _ refl)
 
 -- in a turn of the loop: the state at the start, and the end of the next piece
 abbrev Turn : Type 0
@@ -74,7 +74,7 @@ abbrev end : Turn → ℕ
 end c = getD (ends-given c) (c .loop .k) 0
 
 enough : (c : Turn) → length (ends-given c) ≤ most-blocks
-enough c = few (word c) (ends-given c) (c .before .before .before .before .before .before .before .before .before .before .pre .0) (c .before .before .before .before .before .before .before .before .before .before .pre .1)
+enough c = few (word c) (ends-given c) (c .before .before .before .before .before .before .before .before .before .before .pre .0)
 
 module _ (c : Turn) (h : c .loop .k < length (ends-given c)) where
   -- the next piece is a block
@@ -110,7 +110,7 @@ write-block-requires c κs =
     let t = c .before .before .before in
     let g = t .before .before .before .before .before .before .before .before .before .before in
     let P = t .loop .inv .2 in (
-      (t .loop .inv .0, g .pre .0, block t (omega arith), omega (arith, t .loop .inv .1, g .pre .2)),
+      (t .loop .inv .0, g .pre .0 .0, block t (omega arith), omega (arith, t .loop .inv .1, g .pre .1)),
       (
         next-in-table P (omega arith) (λ a b. smallestPeriod (part (word t) a b)) _ _ (t .before .before .before .before .before .block-units .ensures),
         next-in-table P (omega arith) (runNumber (word t)) _ _ (t .before .before .number-blocks .ensures),
@@ -129,7 +129,7 @@ loop-again c =
     let w = word t in
     let l = t .loop in
     let u = up t (omega arith) in
-    let long = page-line-length w (omega (arith, t .before .before .before .before .before .before .before .before .before .before .pre .0)) (l .k + 1) (l .before) (end t) (block t (omega arith)) (omega (arith, l .inv .0)) in
+    let long = page-line-length w (omega (arith, t .before .before .before .before .before .before .before .before .before .before .pre .0 .0)) (l .k + 1) (l .before) (end t) (block t (omega arith)) (omega (arith, l .inv .0)) in
     let S = stored (l .out) (lineBytes * l .k) (pageLine w (l .k + 1) (l .before) (end t)) _ (lineBytes * (l .k + 1)) (omega (arith, long), c .before .before .write-block .ensures) in (
       omega (arith, l .inv .0),
       stored-length S ∙ l .inv .1,

@@ -42,7 +42,7 @@ unit-of c a b = smallestPeriod (part (word c) a b)
 
 -- there is a place for each unit
 room : (c : Turn) → length (blockUnits (word c) 0 (ends-given c)) ≤ length (table-lent c)
-room c = omega (arith, of-blocks-length (unit-of c) 0 (ends-given c), c .before .before .before .before .pre .2)
+room c = omega (arith, of-blocks-length (unit-of c) 0 (ends-given c), c .before .before .before .before .pre .1)
 
 long : (c : Turn) → length (c .loop .table) ≡ length (table-lent c)
 long c =
@@ -57,7 +57,7 @@ up : (c : Turn) → c .loop .k < length (ends-given c) → c .loop .before < end
 up c h = block-up anyPeriod 2 (word c) (c .loop .before) (end c) (block c h)
 
 loop-holds : tie.Need-loop-holds Inv-loop μ-loop
-loop-holds c = (none-taken (c .before .before .before .pre .1), refl)
+loop-holds c = (none-taken (c .before .before .before .pre .0 .1), refl)
 
 mul-end : tie.Need-mul-end Inv-loop μ-loop
 mul-end c = omega arith

@@ -47,7 +47,7 @@ end c = getD (ends-given c) (c .loop .k) 0
 
 -- there is a place for each number
 room : (c : Turn) → length (runNumbers (word c) 0 (ends-given c)) ≤ length (table-lent c)
-room c = omega (arith, of-blocks-length (runNumber (word c)) 0 (ends-given c), c .before .before .before .before .before .before .before .before .before .pre .0 .2)
+room c = omega (arith, of-blocks-length (runNumber (word c)) 0 (ends-given c), c .before .before .before .before .before .before .before .before .before .pre .0 .1)
 
 long : (c : Turn) → length (c .loop .table) ≡ length (table-lent c)
 long c =
@@ -84,7 +84,7 @@ counts-requires c κs = search needs
 
 loop-holds : tie.Need-loop-holds Inv-loop μ-loop
 loop-holds c = (
-  none-taken (c .before .before .before .before .before .before .before .before .pre .0 .1),
+  none-taken (c .before .before .before .before .before .before .before .before .pre .0 .0 .1),
   refl,
   lent-long limit (c .before .before .counts .last .1 .0) (c .before .before .counts .kept .1 .0),
   length-replicate {A = ℕ} (stride * limit) 0,
