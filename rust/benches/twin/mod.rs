@@ -338,6 +338,16 @@ fn number_of(
     0
 }
 
+fn block_units(w: &[u8], ends: &[u32], table: &mut [u32]) {
+    let mut before = 0;
+    for (k, &end) in ends.iter().enumerate() {
+        let end = end as usize;
+        table[k] = smallest_period(&w[before..end]) as u32;
+        before = end;
+    }
+}
+
+/// Puts the run numbers in the places of the units.
 fn number_blocks(w: &[u8], ends: &[u32], table: &mut [u32]) {
     let mut counts = [0; LIMIT + 1];
     let mut unit_table = [0; LIMIT];
@@ -345,11 +355,10 @@ fn number_blocks(w: &[u8], ends: &[u32], table: &mut [u32]) {
     count_runs(w, &mut unit_table, &mut counts);
     let mut before = 0;
     for (k, &end) in ends.iter().enumerate() {
-        let end = end as usize;
-        let p = smallest_period(&w[before..end]);
-        let a = left_end(w, before, p);
-        table[k] = number_of(w, &counts, a, p as u32, &mut unit_table, &mut rows);
-        before = end;
+        let unit = table[k];
+        let a = left_end(w, before, unit as usize);
+        table[k] = number_of(w, &counts, a, unit, &mut unit_table, &mut rows);
+        before = end as usize;
     }
 }
 
@@ -358,6 +367,7 @@ pub fn path_of_split(w: &[u8], edition: u32, ends: &[u32], table: &mut [u32]) ->
     if table.len() < ends.len() {
         return Err((7, 0));
     }
+    block_units(w, ends, table);
     number_blocks(w, ends, table);
     Ok(blocks)
 }
@@ -455,13 +465,15 @@ pub fn write_page(w: &[u8], edition: u32, ends: &[u32], out: &mut [u8]) -> Answe
     if out.len() < bytes {
         return Err((7, 0));
     }
-    let mut numbers = [0; LIMIT / 2];
+    let mut units = [0; LIMIT / 2];
+    block_units(w, ends, &mut units);
+    let mut numbers = units;
     number_blocks(w, ends, &mut numbers);
     let mut before = 0;
     for (k, line) in out[..bytes].chunks_exact_mut(LINE).enumerate() {
         let end = ends[k] as usize;
         let block = &w[before..end];
-        let p = smallest_period(block);
+        let p = units[k] as usize;
         let (turns, rest) = (block.len() / p, block.len() % p);
         let columns = [k + 1, before + 1, end, p, turns, rest, numbers[k] as usize];
         for (i, x) in columns.into_iter().enumerate() {
