@@ -1,1 +1,2 @@
 pub mod Claims
+pub mod Same

@@ -34,7 +34,8 @@ pub enum Refusal {
     BadEdition,
 }
 
-// The answer of a call that gives one number: how many runs, nodes, blocks or bytes there are.
+// The answer of a call that gives one number: how many runs, nodes, blocks or bytes there are, or
+// which of two words it is.
 pub enum Counted {
     Count(u32),
     Refused(Refusal),

@@ -438,6 +438,10 @@ module _ (c : Choice) (b : ℕ → ℕ → Bool) where
   unfolding bestEnds
   best-ends m = refl
 
+  -- a boundary that is not reached has none
+  pub no-ends : (m : ℕ) → cell c b m ≡ unreachable → bestEnds c b m ≡ []
+  no-ends m e = best-ends m ∙ ap (λ (v : Cell). follow v m (λ p. endsFrom (cell c b) m p)) e
+
 -- the theorem: for a test that decides the relation of blocks, and blocks that go up
 pub best-factorization : (c : Choice) (b : ℕ → ℕ → Bool) (B : ℕ → ℕ → Type 0) (to : (i j : ℕ) → T (b i j) → B i j) (of : (i j : ℕ) → B i j → T (b i j)) (up : (i j : ℕ) → T (b i j) → i < j)
     → (m : ℕ) → Answers c B m (cell c b m) (bestEnds c b m)

@@ -15,6 +15,7 @@ use borrow.Author.Fill.{fill-more}
 use borrow.Author.Tests.{ne-eqb}
 use Rattle.factors.specs.Factorization.{Choice, better, Cell, unreachable, reached, offer, cells, cell, follow, endsFrom, bestEnds}
 use Rattle.factors.specs.Table.{none, sizeIn, previousIn, sizes, previous, started, taken, offered, endsBack, Linked}
+use Rattle.factors.specs.Verdict.{endOf}
 use Rattle.factors.proofs.Chains.{length-snoc}
 use Rattle.factors.proofs.Optimal.{reached-same, reached-suc, reached-zero, best-ends, length-cells, cells-at}
 
@@ -259,16 +260,20 @@ pub linked-zero : (prev : List ℕ) (count : ℕ) → Linked prev count 0 → co
 linked-zero prev zero h = refl
 linked-zero prev (suc count) h = absurd (omega arith)
 
--- a boundary above 0 has a previous one
+-- a boundary above 0, which has a block or more up to it, has a previous one
 pub record Link (prev : List ℕ) (count j : ℕ) : Type 0 where
   pub some : 0 < count
   pub inside : j < length prev
   pub falls : getD prev j 0 < j
   pub rest : Linked prev (count - 1) (getD prev j 0)
 
+pub linked-more : (prev : List ℕ) (count j : ℕ) → 0 < count → Linked prev count j → Link prev count j
+linked-more prev zero j z h = absurd (omega arith)
+linked-more prev (suc count) j z h = record { some = omega arith; inside = h .1; falls = h .2; rest = rw sub-one (h .3) }
+
 pub linked-step : (prev : List ℕ) (count j : ℕ) → (j ≡ 0 → ⊥) → Linked prev count j → Link prev count j
 linked-step prev zero j n h = absurd (n h)
-linked-step prev (suc count) j n h = record { some = omega arith; inside = h .1; falls = h .2; rest = rw sub-one (h .3) }
+linked-step prev (suc count) j n h = linked-more prev (suc count) j (omega arith) h
 
 pub length-ends-back : (prev : List ℕ) (count j : ℕ) → length (endsBack prev count j) ≡ count
 unfolding endsBack
@@ -286,3 +291,20 @@ unfolding endsBack
 ends-back-more prev E zero j h l = absurd (omega arith)
 ends-back-more prev E (suc count) j h l =
     rw (sub-one, drop-cons (set E count j) count 0 (omega (arith, length-set E count j)), getD-set-same E count j 0 (omega arith), drop-set-lt (suc count) E count j (omega arith), append-assoc)
+
+-- ---- for the reader of the first end
+
+-- at most one block: its end is the boundary itself
+pub first-end-here : (prev : List ℕ) (count j : ℕ) → count ≤ 1 → Linked prev count j → j ≡ endOf (endsBack prev count j) 1
+unfolding endsBack
+first-end-here prev zero j h l = l
+first-end-here prev (suc zero) j h l = refl
+first-end-here prev (suc (suc count)) j h l = absurd (omega arith)
+
+-- more than one: that of the blocks up to the previous boundary
+pub first-end-back : (prev : List ℕ) (count j : ℕ) → 1 < count → endOf (endsBack prev (count - 1) (getD prev j 0)) 1 ≡ endOf (endsBack prev count j) 1
+unfolding endsBack
+first-end-back prev zero j h = absurd (omega arith)
+first-end-back prev (suc count) j h =
+    rw sub-one
+    (sym (List·getD-append (endsBack prev count (getD prev j 0)) (j ∷ []) 0 0 (omega (arith, length-ends-back prev count (getD prev j 0)))))

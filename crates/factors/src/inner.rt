@@ -5,6 +5,7 @@ ghost use Prim.Native.Nat.{_≤_, _<_, _^_};
 ghost use lib.ListN.{length, drop, replicate};
 ghost use Rattle.factors.specs.Factorization.{choiceOf};
 ghost use Rattle.factors.specs.Table.{started, offered, endsBack, Linked};
+ghost use Rattle.factors.specs.Verdict.{endOf};
 
 // Sets row 0 before any block is offered; the other places stay.
 pub fn start(work: &mut [u32], n: usize)
@@ -55,6 +56,20 @@ pub fn write_ends(prev: &[u32], j: usize, count: usize, ends: &mut [u32])
     ends[at] = j as u32;
     let before = prev[j] as usize;
     write_ends(prev, before, at, ends);
+}
+
+// The end of the first of the count blocks up to boundary j; 0 where there are none.
+pub fn first_end(prev: &[u32], j: u32, count: u32) -> u32
+    requires { ⌜ Linked (now prev) count j ⌝ }
+    ensures { λ r. ⌜ r ≡ endOf (endsBack (now (prev .entry)) count j) 1 ⌝ }
+{
+    let mut end = j;
+    let mut left = count;
+    while 1 < left {
+        end = prev[end as usize];
+        left -= 1;
+    }
+    end
 }
 
 // Sets every place of the part that is lent to 0.

@@ -10,7 +10,7 @@ use native.Mathlib.Decide.{decLt}
 use borrow.Author.Tests.{lt-ltb, le-ltb, ne-eqb}
 use lib.Dec.{ltb, eqb}
 use lib.ListN.{length, getD, take, drop, replicate, length-append, length-take, length-drop, length-replicate, getD-replicate, replicate-append-replicate, List·getD-append}
-use lib.Seq.{take-at, drop-at, getD-append-add, drop-append-add}
+use lib.Seq.{take-at, drop-at, getD-append-add, drop-append-add, drop-drop}
 use Rattle.laws.proofs.OneOrTwo.{OneOrTwo, one-or-two?, test-of-one-or-two, test-of-other}
 use Rattle.answers.specs.Outcome.{Outcome, refused, limit}
 use Rattle.periods.specs.Period.{anyPeriod}
@@ -22,7 +22,7 @@ use Rattle.factors.proofs.Optimal.{Answers, best-factorization, size-bound}
 use Rattle.factors.proofs.TableLaws.{length-sizes, length-previous, sizes-at, previous-agrees, linked, ends-back}
 use Rattle.factors.proofs.Lent.{lent}
 use Rattle.repetitions.specs.Block.{Block, block?}
-use Rattle.repetitions.specs.Fill.{rowOne, handedOutcome, handedEnds}
+use Rattle.repetitions.specs.Fill.{rowOne, Readable, handedOutcome, handedEnds}
 use Rattle.repetitions.specs.BestSplit.{sizeOutcome, sizeEnds, lastCell, settledEnds, settledWork, tested, bestOutcome, bestEndsTable, bestWork, Reported, unsplittable, best, Answered, no-split, too-few, written, Settled, BestMeaning, too-long, bad-edition, bad-choice, short-table, settled}
 use Rattle.repetitions.proofs.Blocks.{block-sound, block-complete, block-test-up, prefix-factorizations}
 use Rattle.repetitions.proofs.FillLaws.{second, zeros}
@@ -54,6 +54,23 @@ module _ (c : Choice) (b : ℕ → ℕ → Bool) (n : ℕ) (t : List ℕ) where
         length-drop (rows * (n + 1)) t,
       )
 
+  -- what follows the four rows
+  pub filled-past : (m : ℕ) → rows * (n + 1) ≤ m → drop m (filled c b n t) ≡ drop m t
+  filled-past m h =
+      let S = sizes c b n in
+      let P = previous c b n in
+      let Z : List ℕ = replicate (2 * (n + 1)) 0 in
+      let R = drop (rows * (n + 1)) t in
+      let e : m ≡ length S + (length P + (length Z + (m - rows * (n + 1)))) =
+      omega (arith, length-sizes c b n, length-previous c b n, length-replicate {A = ℕ} (2 * (n + 1)) 0) in
+      let f : rows * (n + 1) + (m - rows * (n + 1)) ≡ m = omega arith in
+      ap (λ (x : ℕ). drop x (S ++ (P ++ (Z ++ R)))) e
+      ∙ drop-append-add S (P ++ (Z ++ R)) (length P + (length Z + (m - rows * (n + 1))))
+      ∙ drop-append-add P (Z ++ R) (length Z + (m - rows * (n + 1)))
+      ∙ drop-append-add Z R (m - rows * (n + 1))
+      ∙ drop-drop (m - rows * (n + 1)) (rows * (n + 1)) t
+      ∙ ap (λ (x : ℕ). drop x t) f
+
   -- the row of previous boundaries cleared
   pub filled-cleared : rows * (n + 1) ≤ length t
       → lent (filled c b n t) (n + 1) (second n) (zeros (filled c b n t) (n + 1) (second n)) ≡ sizes c b n ++ (replicate (3 * (n + 1)) 0 ++ drop (rows * (n + 1)) t)
@@ -76,7 +93,7 @@ module _ (c : Choice) (b : ℕ → ℕ → Bool) (n : ℕ) (t : List ℕ) where
   small h s p e = omega (arith, size-bound c b n s p e)
 
   -- the way back from the whole word
-  pub filled-linked : n < none → (getD (filled c b n t) n 0 ≡ none → ⊥) → Linked (rowOne n (filled c b n t)) (getD (filled c b n t) n 0) n
+  filled-linked : n < none → (getD (filled c b n t) n 0 ≡ none → ⊥) → Linked (rowOne n (filled c b n t)) (getD (filled c b n t) n 0) n
   filled-linked h ne = rw (filled-row, filled-size n (omega arith)) (go (cell c b n) refl (λ e. ne (filled-size n (omega arith) ∙ e)))
     where
       go : (v : Cell) → cell c b n ≡ v → (sizeIn v ≡ none → ⊥) → Linked (previous c b n) (sizeIn v) n
@@ -105,8 +122,8 @@ module _ (c : Choice) (b : ℕ → ℕ → Bool) (n : ℕ) (t : List ℕ) where
 
   -- the same of a table r that is filled, with its row 1 cleared to z
   module _ (r : List ℕ) (is : r ≡ filled c b n t) (h : n < none) where
-    pub given-linked : (getD r n 0 ≡ none → ⊥) → Linked (rowOne n r) (getD r n 0) n
-    given-linked = rw is (filled-linked h)
+    pub given-readable : n ≤ limit → rows * (n + 1) ≤ length t → Readable n r
+    given-readable small room = (small, omega (arith, ap length is, filled-long room), rw is (filled-linked h))
 
     pub given-outcome : (places : ℕ) → handedOutcome (getD r n 0) places ≡ sizeOutcome (cell c b n) places
     given-outcome = rw is (filled-outcome h)

@@ -6,7 +6,8 @@ use Prim.Native.Nat.{ℕ, _+_, _-_, _*_, _≤_, _<_}
 use native.Mathlib.Omega.{arith}
 use native.Mathlib.Decide.{decLt, decLe}
 use lib.ListN.{length, getD, take, drop}
-use lib.Seq.{getD-drop, ext-getD}
+use lib.Seq.{ext-getD}
+use Rattle.laws.proofs.Stores.{same-past}
 use Rattle.answers.specs.Outcome.{Outcome, accepted}
 use Rattle.periods.specs.Period.{anyPeriod}
 use Rattle.periods.specs.Edition.{turnsOf}
@@ -62,10 +63,7 @@ module _ (w : List ℕ) (edition choice : ℕ) (e t : List ℕ) where
       at : (i : ℕ) → Dec (i ≤ length w) → Dec (i < k) → getD y i 0 ≡ getD z i 0
       at i (yes a) d = reported-unique (turnsOf edition) (choiceOf choice) (take i w) (getD y i 0) (getD z i 0) (S .prefixes i a) (R .prefixes i a)
       at i (no a) (yes b) = S .cleared i (omega arith) b ∙ sym (R .cleared i (omega arith) b)
-      at i (no a) (no b) =
-          let q : k + (i - k) ≡ i = omega arith in
-          ap (λ (j : ℕ). getD y j 0) (sym q) ∙ sym (getD-drop k y (i - k) 0) ∙ ap (λ (l : List ℕ). getD l (i - k) 0) (S .kept ∙ sym (R .kept))
-          ∙ getD-drop k z (i - k) 0 ∙ ap (λ (j : ℕ). getD z j 0) q
+      at i (no a) (no b) = same-past k y z (S .kept ∙ sym (R .kept)) i (omega arith)
 
   -- CLAIM: the meaning of best split determines the answer, the ends and the working table
   pub best-determined : (o : Outcome) (x y : List ℕ) → BestMeaning w edition choice e t o x y → (o ≡ bestOutcome w edition choice e t) × (x ≡ bestEndsTable w edition choice e t) × (y ≡ bestWork w edition choice t)

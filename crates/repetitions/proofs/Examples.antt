@@ -1,15 +1,16 @@
 -- The documents' examples of the definitions that the contracts of this crate cite, computed: the starred sequences in both editions as one table each with
 -- one claim, the two longest sequences of letters, the tie rule, and the judged splits. Assumes nothing.
-use mathlib.Core.Path.{_≡_, refl, ap, ap₂}
+use mathlib.Core.Path.{_≡_, refl}
 use mathlib.Core.Logic.{inl, inr}
 use mathlib.Core.Bool.{Bool, true, false, _&&_}
 use mathlib.Core.List.{List, [], _∷_, _++_}
 use Prim.Native.Nat.{ℕ, _+_, _-_, _*_}
 use native.Mathlib.Omega.{arith}
-use lib.Dec.{T, eqb, eqb→eq}
+use lib.Dec.{T}
 use lib.ListN.{length, replicate}
 use Rattle.laws.proofs.Tests.{and-left, and-right}
 use Rattle.answers.specs.Outcome.{Outcome, accepted, refused}
+use Rattle.answers.proofs.Same.{same?, sameOutcome?, same-means, same-outcome-means}
 use Rattle.periods.specs.Period.{smallestPeriod, repetition?, anyPeriod}
 use Rattle.periods.specs.Edition.{badEdition?, turnsOf}
 use Rattle.factors.specs.Factorization.{LongerFromEnd, cell, bestEnds}
@@ -57,18 +58,6 @@ Holds x =
     × (bestWork (x .word) (x .edition) (x .choice) (lentWork (x .word)) ≡ workLeft (x .word) (x .best))
 
 -- the same as a test
-abbrev same? : List ℕ → List ℕ → Bool
-same? [] [] = true
-same? [] (y ∷ ys) = false
-same? (x ∷ xs) [] = false
-same? (x ∷ xs) (y ∷ ys) = eqb x y && same? xs ys
-
-abbrev sameOutcome? : Outcome → Outcome → Bool
-sameOutcome? (accepted v) (accepted u) = same? v u
-sameOutcome? (accepted v) (refused x i) = false
-sameOutcome? (refused x i) (accepted u) = false
-sameOutcome? (refused x i) (refused y j) = eqb x y && eqb i j
-
 abbrev pub holds? : Case → Bool
 holds? x =
     sameOutcome? (bestOutcome (x .word) (x .edition) (x .choice) (lentEnds (x .word)) (lentWork (x .word))) (x .answer)
@@ -78,19 +67,6 @@ holds? x =
 abbrev pub all : List Case → Bool
 all [] = true
 all (x ∷ xs) = holds? x && all xs
-
-same-means : (xs ys : List ℕ) → T (same? xs ys) → xs ≡ ys
-same-means [] [] h = refl
-same-means [] (y ∷ ys) h = absurd h
-same-means (x ∷ xs) [] h = absurd h
-same-means (x ∷ xs) (y ∷ ys) h =
-    ap₂ (λ (z : ℕ) (zs : List ℕ). z ∷ zs) (eqb→eq x y (and-left (eqb x y) (same? xs ys) h)) (same-means xs ys (and-right (eqb x y) (same? xs ys) h))
-
-same-outcome-means : (o q : Outcome) → T (sameOutcome? o q) → o ≡ q
-same-outcome-means (accepted v) (accepted u) h = ap accepted (same-means v u h)
-same-outcome-means (accepted v) (refused x i) h = absurd h
-same-outcome-means (refused x i) (accepted u) h = absurd h
-same-outcome-means (refused x i) (refused y j) h = ap₂ refused (eqb→eq x y (and-left (eqb x y) (eqb i j) h)) (eqb→eq i j (and-right (eqb x y) (eqb i j) h))
 
 -- a case that passes the test holds
 pub holds-means : (x : Case) → T (holds? x) → Holds x

@@ -33,6 +33,10 @@ rowOne n t = take (n + 1 + (n + 1) - (n + 1)) (drop (n + 1) t)
 abbrev pub Leads : ℕ → List ℕ → Type 0
 Leads n t = (getD t n 0 ≡ none → ⊥) → Linked (rowOne n t) (getD t n 0) n
 
+-- an answer can be read off the table for a word of n symbols: rows 0 and 1 lie within it, and the way back is there
+abbrev pub Readable : ℕ → List ℕ → Type 0
+Readable n t = (n ≤ limit) × (n + 1 + (n + 1) ≤ length t) × Leads n t
+
 -- the answer from the size that stands for the whole word, where so many places are lent for the ends
 abbrev pub handedOutcome : ℕ → ℕ → Outcome
 handedOutcome v places = cond (eqb v none) (refusal NoFactorization) (cond (ltb places v) (refusal TooFewPlaces) (accepted (v ∷ [])))

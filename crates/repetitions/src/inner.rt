@@ -1,4 +1,4 @@
-// For this crate's calls: the caller shows what each function requires.
+// For the library's own crates: the caller shows what each function requires.
 ghost use mathlib.Core.Path.{_≡_};
 ghost use Prim.Native.Nat.{_≤_, _+_, _-_, _*_};
 ghost use lib.ListN.{length, getD};
@@ -8,7 +8,7 @@ ghost use Rattle.periods.specs.Edition.{Edition, Turns, turnsOf};
 ghost use Rattle.factors.specs.Factorization.{choiceOf};
 ghost use Rattle.factors.specs.Table.{rows, spread, filled};
 ghost use Rattle.repetitions.specs.Block.{block?};
-ghost use Rattle.repetitions.specs.Fill.{longEnough, UnitsRise, Workable, Leads, handedOutcome, handedEnds};
+ghost use Rattle.repetitions.specs.Fill.{longEnough, UnitsRise, Workable, Readable, handedOutcome, handedEnds};
 ghost use Rattle.repetitions.specs.BestSplit.{sizeOutcome, settledEnds, settledWork, lastCell};
 use answers::Counted;
 use answers::Refusal;
@@ -42,7 +42,7 @@ fn spread(work: &mut [u32], n: usize, turns: usize, choice: u32, j: usize, size:
 // Fills the working table: the best size of each prefix length, and the previous boundary that it
 // came from. Boundaries in rising order; one that is not reached offers nothing. The part call is
 // lent row 2 and writes the units of what follows the boundary; what it answers is not needed.
-fn fill(w: &[u8], edition: u32, choice: u32, work: &mut [u32])
+pub fn fill(w: &[u8], edition: u32, choice: u32, work: &mut [u32])
     requires { ⌜ Workable (now w) (now work) × Edition edition ⌝ }
     ensures { λ _. ⌜ now (work .exit) ≡ filled (choiceOf choice) (block? anyPeriod (turnsOf edition) (now (w .entry))) (length (now (w .entry))) (now (work .entry)) ⌝ }
 {
@@ -70,7 +70,7 @@ fn fill(w: &[u8], edition: u32, choice: u32, work: &mut [u32])
 
 // Answers from a filled table, and writes the ends where there is a factorization and room for them.
 fn hand_out(work: &[u32], n: usize, ends: &mut [u32]) -> Counted
-    requires { ⌜ (n ≤ limit) × (n + 1 + (n + 1) ≤ length (now work)) × Leads n (now work) ⌝ }
+    requires { ⌜ Readable n (now work) ⌝ }
     ensures { λ r. ⌜ countedView r ≡ handedOutcome (getD (now (work .entry)) n 0) (length (now (ends .entry))) ⌝ }
     ensures { λ _. ⌜ now (ends .exit) ≡ handedEnds n (now (work .entry)) (now (ends .entry)) ⌝ }
 {

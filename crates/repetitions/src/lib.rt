@@ -4,7 +4,7 @@ ghost use Rattle.answers.specs.Outcome.{countedView};
 ghost use Rattle.repetitions.specs.BestSplit.{bestOutcome, bestEndsTable, bestWork, BestMeaning};
 ghost use Rattle.repetitions.specs.Judge.{splitOutcome, SplitMeaning};
 
-mod inner;
+pub mod inner;
 
 use answers::Counted;
 use answers::Refusal;
@@ -12,7 +12,7 @@ use answers::Refusal;
 // Best split: choice 1 is fewest, 2 is most. Gives the size, and writes the ends of the
 // factorization of that size whose last block is longest, then the one before it, and so on. The
 // working table afterwards holds the best size of each prefix length. Refusals: 1, 12, 8, 9, 2, 7.
-// Time: quadratic in the word's length at most. 192 bytes of stack, and 48 a block.
+// Time: quadratic in the word's length at most. 300 bytes of stack, and 48 a block.
 pub fn best_split(
     w: &[u8],
     edition: u32,

@@ -1,6 +1,6 @@
 -- `repetitions::inner::settle` meets its contract: the answer is handed out from a filled table, whose row of previous boundaries is then cleared. Assumes
 -- nothing.
-use mathlib.Core.Path.{ap, _∙_}
+use mathlib.Core.Path.{_∙_}
 use native.Mathlib.Omega.{arith}
 use borrow.Author.Needs.{needs}
 use lib.ListN.{length}
@@ -8,7 +8,7 @@ use Rattle.periods.specs.Period.{anyPeriod}
 use Rattle.periods.specs.Edition.{turnsOf}
 use Rattle.factors.specs.Factorization.{choiceOf}
 use Rattle.repetitions.specs.Block.{block?}
-use Rattle.repetitions.proofs.BestClaims.{filled-long, given-linked, given-outcome, given-ends, given-cleared}
+use Rattle.repetitions.proofs.BestClaims.{given-readable, given-outcome, given-ends, given-cleared}
 use Rattle.repetitions.proofs.inner.settle.Statement.{statement}
 use Rattle.repetitions.proofs.inner.settle.Tie as tie
 
@@ -18,11 +18,8 @@ fill-requires c κs = search needs
 hand-out-requires : tie.Need-hand-out-requires
 hand-out-requires c κs =
     let g = c .before .before .before .before .before .before .before .before .before .args in
-    let e = c .before .before .before .before .fill .ensures in (
-      omega arith,
-      omega (arith, ap length e, filled-long (choiceOf (g .choice)) (block? anyPeriod (turnsOf (g .edition)) (g .w .now)) (length (g .w .now)) (g .work .now) (omega arith)),
-      given-linked (choiceOf (g .choice)) (block? anyPeriod (turnsOf (g .edition)) (g .w .now)) (length (g .w .now)) (g .work .now) _ e (omega arith),
-    )
+    let e = c .before .before .before .before .fill .ensures in
+    given-readable (choiceOf (g .choice)) (block? anyPeriod (turnsOf (g .edition)) (g .w .now)) (length (g .w .now)) (g .work .now) _ e (omega arith) (omega arith) (omega arith)
 
 add-row : tie.Need-add-row
 add-row c = search needs
