@@ -1,0 +1,5 @@
+pub mod Measures
+pub mod CallClaims
+pub mod Determined
+pub mod Claims
+pub mod Examples

@@ -1,0 +1,2 @@
+pub mod Measure
+pub mod Calls

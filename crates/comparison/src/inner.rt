@@ -1,0 +1,92 @@
+// For this crate's calls and the interface: both words measured over the one table, then compared.
+ghost use mathlib.Core.Path.{_≡_};
+ghost use Prim.Native.Nat.{max};
+ghost use lib.ListN.{length, getD};
+ghost use Rattle.periods.specs.Period.{anyPeriod};
+ghost use Rattle.periods.specs.Edition.{Edition, turnsOf};
+ghost use Rattle.factors.specs.Factorization.{smallest};
+ghost use Rattle.factors.specs.Table.{filled};
+ghost use Rattle.repetitions.specs.Block.{block?};
+ghost use Rattle.repetitions.specs.Fill.{Workable, Readable};
+ghost use Rattle.comparison.specs.Calls.{compared, whichWork};
+ghost use Rattle.comparison.specs.Measure.{fewestSize, firstEnd, endIn, chosenBy};
+use super::Chosen;
+use answers::Refusal;
+use factors::NONE;
+
+// What is known of a word: the size of its smallest factorization, NONE where it has none, and the
+// end of the first block.
+struct Measured {
+    size: u32,
+    end: u32,
+}
+
+// Reads both off a filled table.
+fn read_off(work: &[u32], n: usize) -> Measured
+    requires { ⌜ Readable n (now work) ⌝ }
+    ensures { λ r. ⌜ (r .size ≡ getD (now (work .entry)) n 0) × (r .end ≡ endIn n (now (work .entry))) ⌝ }
+{
+    let size = work[n];
+    if size == NONE {
+        return Measured { size, end: 0 };
+    }
+    let row = n + 1;
+    let two = row + row;
+    let end = factors::inner::first_end(&work[row..two], n as u32, size);
+    Measured { size, end }
+}
+
+// Fills the table for a word and reads it off.
+fn measure(w: &[u8], edition: u32, work: &mut [u32]) -> Measured
+    requires { ⌜ Workable (now w) (now work) × Edition edition ⌝ }
+    ensures { λ r. ⌜ (r .size ≡ fewestSize (turnsOf edition) (now (w .entry))) × (r .end ≡ firstEnd (turnsOf edition) (now (w .entry))) ⌝ }
+    ensures { λ _. ⌜ now (work .exit) ≡ filled smallest (block? anyPeriod (turnsOf edition) (now (w .entry))) (length (now (w .entry))) (now (work .entry)) ⌝ }
+{
+    repetitions::inner::fill(w, edition, factors::FEWEST, work);
+    read_off(work, w.len())
+}
+
+// The word with the smaller size; no size is above NONE.
+fn choose(a: Measured, b: Measured) -> Chosen
+    ensures { λ r. ⌜ r ≡ chosenBy (a .size) (a .end) (b .size) (b .end) ⌝ }
+{
+    if b.size < a.size {
+        return Chosen::Second(b.end);
+    }
+    if a.size == NONE {
+        return Chosen::Refused(Refusal::NoFactorization);
+    }
+    Chosen::First(a.end)
+}
+
+// The longer of two lengths.
+fn longer(a: usize, b: usize) -> usize
+    ensures { λ r. ⌜ r ≡ max a b ⌝ }
+{
+    if a < b {
+        return b;
+    }
+    a
+}
+
+// The word to wind first, and the length of its first block; what which first and first block go by.
+pub fn compare(a: &[u8], b: &[u8], edition: u32, work: &mut [u32]) -> Chosen
+    ensures answer { λ r. ⌜ r ≡ compared (now (a .entry)) (now (b .entry)) edition (length (now (work .entry))) ⌝ }
+    ensures worked { λ _. ⌜ now (work .exit) ≡ whichWork (now (a .entry)) (now (b .entry)) edition (now (work .entry)) ⌝ }
+{
+    let n = longer(a.len(), b.len());
+    if answers::LIMIT < n {
+        return Chosen::Refused(Refusal::TooLong);
+    }
+    if periods::bad_edition(edition) {
+        return Chosen::Refused(Refusal::BadEdition);
+    }
+    let places = factors::ROWS * (n + 1);
+    if work.len() < places {
+        return Chosen::Refused(Refusal::ShortTable);
+    }
+    let first = measure(a, edition, work);
+    let second = measure(b, edition, work);
+    factors::inner::clear(&mut work[0..places]);
+    choose(first, second)
+}
