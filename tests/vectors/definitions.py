@@ -1,5 +1,5 @@
 #!/usr/bin/env python3
-"""The definitions and calls of document 01 and of document 02's items 1 to 3, as plainly as the
+"""The definitions and calls of document 01 and of document 02's items 1 to 4, as plainly as the
 documents state them, for the expected outputs of the test programs. Nothing is taken from the
 library or from its runs.
 
@@ -199,6 +199,35 @@ def best_split(word, edition, choice, ends, work):
     if len(ends) < sizes[n]:
         return refused(7), ends, work
     return accepted(sizes[n]), written(best_ends(word, k, choice), ends), work
+
+
+def which_first(a, b, edition, work):
+    """Which first: 1 for either, 12, 9 for the longer, 2 if neither splits. Gives 1 or 2 for the one
+    that has fewer blocks in its fewest split. The working table is the same after an answer and 2."""
+    n = max(len(a), len(b))
+    if n > LIMIT:
+        return refused(1), work
+    if edition not in TURNS:
+        return refused(12), work
+    if len(work) < 4 * (n + 1):
+        return refused(9), work
+    work = written([0] * (4 * (n + 1)), work)
+    sizes = [best_table(word, TURNS[edition], FEWEST)[0][-1] for word in (a, b)]
+    if sizes == [NONE, NONE]:
+        return refused(2), work
+    # NONE is above every size, and index gives the first of two that are equal
+    return accepted(1 + sizes.index(min(sizes))), work
+
+
+def first_block(a, b, edition, work):
+    """First block: that of the fewest split of the one that which first answers, as a part of it; the
+    empty part of an empty one, and where which first refuses."""
+    outcome, work = which_first(a, b, edition, work)
+    if is_refused(outcome):
+        return b"", work
+    word = (a, b)[outcome[1] - 1]
+    ends = best_ends(word, TURNS[edition], FEWEST)
+    return word[: ends[0]] if ends else b"", work
 
 
 def judge_split(word, edition, ends):
@@ -403,6 +432,26 @@ EXAMPLES = {  # of each edition: sequence, ends of the fewest, ends of the most;
     ],
 }
 
+LONG = b"abaabaababaabaabababa"
+
+PAIRS = [  # two lay-ups, edition, which first, first block; worked out by hand
+    (b"aabaabaa", LONG, 1, accepted(1), b"aabaabaa"),
+    (LONG, b"aabaabaa", 1, accepted(2), b"aabaabaa"),
+    (b"aabb", LONG, 1, accepted(1), b"aa"),
+    (LONG, b"aabb", 1, accepted(1), b"abaabaababaabaab"),
+    (b"ab", b"aabb", 1, accepted(2), b"aa"),
+    (b"aabb", b"ab", 1, accepted(1), b"aa"),
+    (b"ab", b"baa", 1, refused(2), b""),
+    (b"", b"aa", 1, accepted(1), b""),
+    (b"aa", b"", 1, accepted(2), b""),
+    (b"", b"ab", 1, accepted(1), b""),
+    (b"", b"", 1, accepted(1), b""),
+    (b"aabaabaa", b"aaabbb", 2, accepted(2), b"aaa"),
+    (b"aaabbb", b"aabaabaab", 2, accepted(2), b"aabaabaab"),
+    (b"aaaabababab", b"aaabbb", 2, accepted(1), b"aaa"),
+    (b"aabaabaa", b"aabb", 2, refused(2), b""),
+]
+
 JUDGED = [  # on aabaabaa, edition 1: ends, and the document's refusal
     ([3, 8], refused(4, 1)),
     ([2, 2, 8], refused(3, 2)),
@@ -439,6 +488,24 @@ def compare_with_enumeration(word, edition):
         expect([len(line) for line in lines] == [60] * len(ends), "lines of", word, edition, ends)
 
 
+def compare_two_with_enumeration(a, b, edition):
+    """Both calls, with a place more than they need; the first wins where both sizes are equal."""
+    needed = 4 * (max(len(a), len(b)) + 1)
+    cleared = [0] * needed + [7]
+    (size, ends), (other_size, other_ends) = (
+        best_of(splits_of(word, edition), FEWEST) for word in (a, b)
+    )
+    if size == other_size == NONE:
+        outcome, block = refused(2), b""
+    elif other_size < size:
+        outcome, block = accepted(2), b[: min(other_ends, default=0)]
+    else:
+        outcome, block = accepted(1), a[: min(ends, default=0)]
+    lent = [7] * len(cleared)
+    expect(which_first(a, b, edition, lent) == (outcome, cleared), "first of", a, b, edition)
+    expect(first_block(a, b, edition, lent) == (block, cleared), "first block of", a, b, edition)
+
+
 def compare_with_examples(edition):
     for word, *both in EXAMPLES[edition]:
         for choice, ends in zip((FEWEST, MOST), both):
@@ -462,6 +529,15 @@ def compare_with_document():
     expect(write_page(b"aabaabaa", 1, [2, 8], [7] * 121) == (refused(7), [7] * 121), "a short page")
     for ends, outcome in JUDGED:
         expect(write_page(b"aabaabaa", 1, ends, []) == (outcome, []), "page of", ends)
+    for a, b, edition, outcome, block in PAIRS:
+        expect(which_first(a, b, edition, [7] * 89)[0] == outcome, "first of", a, b, edition)
+        expect(first_block(a, b, edition, [7] * 89)[0] == block, "first block of", a, b, edition)
+    # 1, 12, 9 and 2 in this order, 1 and 9 for the longer wherever it stands; the table is kept
+    kept = [7] * 11
+    for longer, edition, number in (b"a" * 4097, 3, 1), (b"ab", 3, 12), (b"ab", 1, 9):
+        for a, b in (longer, b"a"), (b"a", longer):
+            expect(which_first(a, b, edition, kept) == (refused(number), kept), "refusal", number)
+            expect(first_block(a, b, edition, kept) == (b"", kept), "the part after", number)
     expect(runs_of(b"aabaabaa") == [(1, 2, 1), (1, 8, 3), (4, 5, 1), (7, 8, 1)], "runs of aabaabaa")
 
 
@@ -474,9 +550,15 @@ def main():
         compare_with_examples(edition)
         for word in words + longer:
             compare_with_enumeration(word, edition)
+    # the examples stand beside the short words, few of which have a split in edition 2
+    few = {word for word in words if len(word) < 5}
+    few |= {word for edition in TURNS for word, *_ in EXAMPLES[edition] if len(word) < 13}
+    for edition in TURNS:
+        for a, b in product(few, repeat=2):
+            compare_two_with_enumeration(a, b, edition)
     print(
         f"definitions: {len(words + longer)} words compared with the enumeration of their splits and"
-        " paths, in both editions"
+        f" paths, and {len(few) ** 2} pairs with that of their splits, in both editions"
     )
 
 
