@@ -10,17 +10,18 @@
  * Every call about words or plans returns 0 for accepted, else the number of the refusal: of those
  * that the call's comment lists, the first that is met, in the order listed. *index is the number
  * of the end from 1 after refusals 3 and 4, else 0. The other values are set after an accepted
- * answer, and are 0 after a refusal.
+ * answer, and are 0 after a refusal. cegridom_first_block alone refuses nothing and has no index.
+ * Where a call takes two words, n is the length of the longer.
  *
  * Tables. A slice is lent as a pointer and its count of elements; a slice of count 0 may be null.
  * An accepted answer changes only the first places that it needs of an output table; a refusal
- * changes none. The working table of cegridom_best_split is the exception, as its comment says.
+ * changes none. A working table is the exception, as the comment of each call that has one says.
  * Every other pointer must be valid: those to the index and to the values may not be null, whether
  * they are wanted or not. No two may overlap unless the call only reads both.
  *
  * Calls are reentrant: they keep no state, allocate nothing and call nothing back, so any number of
  * threads may call at once, with tables of their own. What a call costs is said in each comment, n
- * being the length of the word; where no stack is named, it is under 200 bytes. Stack figures are
+ * being the length of the word; where no stack is named, it is under 400 bytes. Stack figures are
  * for a warm call: where memset or memcpy is bound lazily, the first call of a process may take some
  * 3 KiB more, since the dynamic linker looks them up on the caller's stack.
  *
@@ -41,19 +42,19 @@ extern "C" {
 
 /* The version of this header, in numbers and as text; cegridom_version gives the archive's. */
 #define CEGRIDOM_VERSION_MAJOR 0
-#define CEGRIDOM_VERSION_MINOR 5
+#define CEGRIDOM_VERSION_MINOR 6
 #define CEGRIDOM_VERSION (1000 * CEGRIDOM_VERSION_MAJOR + CEGRIDOM_VERSION_MINOR)
-#define CEGRIDOM_VERSION_STRING "0.5"
+#define CEGRIDOM_VERSION_STRING "0.6"
 
 /* The longest word that is taken. */
 #define CEGRIDOM_LIMIT 4096
-/* What the working table holds for a prefix that has no split. */
+/* What the working table of cegridom_best_split holds for a prefix that has no split. */
 #define CEGRIDOM_NONE 4294967295u
 
 /* The places that the table of cegridom_part needs, for the part from first to last: its length, as
    a size_t, and 0 where first is above last. n places suffice for every part of a word. */
 #define CEGRIDOM_UNIT_PLACES(first, last) ((first) > (last) ? 0 : (size_t)(last) - (first) + 1)
-/* The places that a working table needs, for a word of n symbols. */
+/* The places that a working table needs, for a word of n symbols; of two words, for the longer. */
 #define CEGRIDOM_WORK_PLACES(n) (4 * ((n) + 1))
 /* The most ends that a split of a word of n symbols has in edition 1; in edition 2 they suffice. */
 #define CEGRIDOM_MOST_ENDS(n) ((n) / 2)
@@ -76,7 +77,8 @@ extern "C" {
 #define CEGRIDOM_FEWEST 1
 #define CEGRIDOM_MOST 2
 
-/* The results of a call; cegridom_message gives the same words. */
+/* The results of a call; cegridom_message gives the same words. Of two words, 1 says that either is
+   too long, 9 goes by the longer, and 2 says that neither has a split. */
 enum cegridom_result {
     /* accepted */
     CEGRIDOM_ACCEPTED = 0,
@@ -195,11 +197,37 @@ uint32_t cegridom_nodes(const uint8_t *word, size_t n, uint32_t edition, uint32_
  * 0 to n, CEGRIDOM_NONE where the prefix has no split, and 0 in the following 3 x (n+1); after an
  * answer and after refusals 2 and 7 alike. After 1, 12, 8 and 9 it keeps its contents. Places past
  * 4 x (n+1) never change.
- * Time at most quadratic in n; 192 bytes of stack and 48 a block of the split, 97 KiB at most.
+ * Time at most quadratic in n; 300 bytes of stack and 48 a block of the split, 97 KiB at most.
  */
 uint32_t cegridom_best_split(const uint8_t *word, size_t n, uint32_t edition, uint32_t choice,
                              uint32_t *ends, size_t end_places, uint32_t *work, size_t work_places,
                              uint32_t *size, uint32_t *index);
+
+/*
+ * Which first: gives 1 for a or 2 for b, the word that has fewer blocks of the edition in its
+ * fewest split. The first wins a tie; if only one can be split it is that one.
+ * Reads a and b, which may overlap or be the same. Refusals: 1 for either; 12; 9 for the longer; 2
+ * if neither can be split.
+ * The first 4 x (n+1) places of the working table hold 0 afterwards, after an answer and after 2
+ * alike. After 1, 12 and 9 it keeps its contents. Places past 4 x (n+1) never change.
+ * Time at most quadratic in n, that of two fewest splits.
+ */
+uint32_t cegridom_which_first(const uint8_t *a, size_t a_n, const uint8_t *b, size_t b_n,
+                              uint32_t edition, uint32_t *work, size_t work_places, uint32_t *which,
+                              uint32_t *index);
+
+/*
+ * First block: gives 1 or 2 as cegridom_which_first does, and the length of the first block of that
+ * word's fewest split, the one that cegridom_best_split writes: the block is the first so many
+ * symbols of that word. The length is 0 where that word is empty. Where cegridom_which_first
+ * refuses, both numbers are 0; the result is CEGRIDOM_ACCEPTED always.
+ * Reads a and b, and leaves the working table, as cegridom_which_first does, also where that
+ * refuses.
+ * Time at most quadratic in n, that of two fewest splits.
+ */
+uint32_t cegridom_first_block(const uint8_t *a, size_t a_n, const uint8_t *b, size_t b_n,
+                              uint32_t edition, uint32_t *work, size_t work_places, uint32_t *which,
+                              uint32_t *length);
 
 /*
  * Judge a split: accepted, with the number of blocks, exactly when the ends are those of a split

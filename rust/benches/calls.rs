@@ -9,7 +9,8 @@
 //!
 //! The second times only the calls whose names have that word. `cargo test --benches` compares the
 //! answers and times nothing. With write a page comes a second table: what it takes beyond path of a
-//! split, for each block.
+//! split, for each block. With which first and first block comes a third: what they take of the time
+//! of two fewest splits, of each the median batch.
 //!
 //! A call that is told an edition has a row for each, on the same words. Buffers are allocated once
 //! and not cleared between calls. Each figure is processor time, the least of several batches, those
@@ -28,11 +29,13 @@ const LENGTHS: [usize; 4] = [512, 1024, 2048, 4096];
 const DOUBLINGS: f64 = 3.0;
 const BATCHES: usize = 11;
 /// More, where a small difference of two times is wanted.
-const PAGE_BATCHES: usize = 33;
+const CLOSE_BATCHES: usize = 33;
 /// A batch is as many calls as take at least this long.
 const BATCH_SECONDS: f64 = 0.004;
 /// What a call may take of its twin's time.
 const MOST_RATIO: f64 = 1.5;
+/// What a call on two words may take of the time of their two fewest splits.
+const MOST_OF_TWO: f64 = 1.05;
 const MICRO: f64 = 1e6;
 const MILLI: f64 = 1e3;
 const NANO: f64 = 1e9;
@@ -96,6 +99,23 @@ const PAGES: [Page; 4] = [
     ("all equal, one block", |n| (vec![b'a'; n], vec![n as u32])),
 ];
 
+/// Two words.
+type Pair = (&'static str, fn(usize) -> [Vec<u8>; 2]);
+
+const PAIRS: [Pair; 4] = [
+    ("all equal; Fibonacci", |n| [vec![b'a'; n], fibonacci(n)]),
+    ("random squares, 2 symbols; period 64", |n| {
+        [squares(n), period_64(n)]
+    }),
+    ("a…ab; Thue–Morse", |n| [last_differs(n), thue_morse(n)]),
+    ("random, 2 symbols; random, 256 symbols", |n| {
+        [random(n, 2), random(n, 256)]
+    }),
+];
+
+/// Short words too, where what is done once a call counts most.
+const PAIR_LENGTHS: [usize; 5] = [8, 512, 1024, 2048, 4096];
+
 /// Tables for one of the two sides.
 #[derive(Clone, PartialEq, Debug)]
 struct Buffers {
@@ -119,6 +139,8 @@ impl Buffers {
 /// What the calls are given.
 struct Input {
     word: Vec<u8>,
+    /// For the calls on two words.
+    second: Vec<u8>,
     /// Its number.
     edition: u32,
     ends: Vec<u32>,
@@ -144,12 +166,21 @@ impl Input {
         let plan_ends: Vec<u32> = (1..=n / 2).map(|k| 2 * k).collect();
         let plan = cegridom::write_plan(word.len(), &plan_ends).unwrap();
         Input {
+            second: fibonacci(word.len()),
             word,
             edition: edition.number(),
             ends,
             path,
             plan_ends,
             plan,
+        }
+    }
+
+    /// Two words.
+    fn pair([word, second]: [Vec<u8>; 2], edition: Edition) -> Input {
+        Input {
+            second,
+            ..Input::new(word, edition)
         }
     }
 
@@ -162,22 +193,41 @@ impl Input {
     }
 }
 
-type Answer = Result<Vec<u32>, (u32, u32)>;
+/// As many as the part call gives, and 0 after fewer: an answer allocates nothing, since on short
+/// words that would take longer than the call.
+type Values = [u32; 4];
+
+type Answer = Result<Values, (u32, u32)>;
+
+fn padded<const N: usize>(given: [u32; N]) -> Values {
+    let mut values = Values::default();
+    values[..N].copy_from_slice(&given);
+    values
+}
 
 /// The values that a call hands over by pointer, or its refusal.
 fn answer<const N: usize>(call: impl FnOnce(&mut [u32; N], &mut u32) -> u32) -> Answer {
     let (mut values, mut index) = ([0; N], 0);
     match call(&mut values, &mut index) {
-        0 => Ok(values.to_vec()),
+        0 => Ok(padded(values)),
         number => Err((number, index)),
     }
 }
 
-/// A call's name, whether its time depends on the word, whether it is told an edition, and the call
-/// by the library and its twin.
+/// What the time of a call depends on.
+enum On {
+    Word,
+    /// The word and a second one, the Fibonacci word.
+    TwoWords,
+    /// The count of ends alone.
+    Ends,
+}
+
+/// A call's name, what its time depends on, whether it is told an edition, and the call by the
+/// library and its twin.
 struct Call {
     name: &'static str,
-    on_words: bool,
+    on: On,
     in_editions: bool,
     library: fn(&Input, &mut Buffers) -> Answer,
     twin: fn(&Input, &mut Buffers) -> Answer,
@@ -186,13 +236,20 @@ struct Call {
 // The pointers that the calls below hand over come from the vectors of the input and of the
 // buffers, with their own lengths, and from the values of `answer`; none overlaps another.
 
-fn library_best(input: &Input, b: &mut Buffers, choice: Choice) -> Answer {
-    let (w, e, t) = (&input.word, &mut b.table, &mut b.work);
-    answer(|[size], index| unsafe {
+fn best(
+    w: &[u8],
+    edition: u32,
+    choice: Choice,
+    b: &mut Buffers,
+    size: &mut u32,
+    index: &mut u32,
+) -> u32 {
+    let (e, t) = (&mut b.table, &mut b.work);
+    unsafe {
         raw::cegridom_best_split(
             w.as_ptr(),
             w.len(),
-            input.edition,
+            edition,
             choice.number(),
             e.as_mut_ptr(),
             e.len(),
@@ -201,21 +258,36 @@ fn library_best(input: &Input, b: &mut Buffers, choice: Choice) -> Answer {
             size,
             index,
         )
+    }
+}
+
+fn library_best(input: &Input, b: &mut Buffers, choice: Choice) -> Answer {
+    answer(|[size], index| best(&input.word, input.edition, choice, b, size, index))
+}
+
+/// The fewest splits of both words, one after the other; what the second gives.
+fn two_fewest(input: &Input, b: &mut Buffers) -> Answer {
+    let (edition, choice) = (input.edition, Choice::Fewest);
+    answer(|[size], index| {
+        black_box(best(&input.word, edition, choice, b, size, index));
+        best(&input.second, edition, choice, b, size, index)
     })
 }
 
 fn twin_best(input: &Input, b: &mut Buffers, choice: Choice) -> Answer {
     let (w, choice) = (&input.word, choice.number());
-    twin::best_split(w, input.edition, choice, &mut b.table, &mut b.work).map(|v| vec![v])
+    twin::best_split(w, input.edition, choice, &mut b.table, &mut b.work).map(|v| padded([v]))
 }
 
 const PATH: &str = "path of a split";
 const PAGE: &str = "write a page";
+const WHICH: &str = "which first";
+const BLOCK: &str = "first block";
 
-static CALLS: [Call; 11] = [
+static CALLS: [Call; 13] = [
     Call {
         name: "part",
-        on_words: true,
+        on: On::Word,
         in_editions: true,
         library: |input, b| {
             let (w, n, edition) = (input.word.as_ptr(), input.word.len(), input.edition);
@@ -239,12 +311,12 @@ static CALLS: [Call; 11] = [
         },
         twin: |input, b| {
             let (w, n) = (&input.word, input.word.len());
-            twin::part(w, input.edition, 1, n as u32, &mut b.table[..n]).map(|v| v.to_vec())
+            twin::part(w, input.edition, 1, n as u32, &mut b.table[..n]).map(padded)
         },
     },
     Call {
         name: "runs",
-        on_words: true,
+        on: On::Word,
         in_editions: false,
         library: |input, b| {
             let (w, t) = (&input.word, &mut b.table);
@@ -252,11 +324,11 @@ static CALLS: [Call; 11] = [
                 raw::cegridom_runs(w.as_ptr(), w.len(), t.as_mut_ptr(), t.len(), count, index)
             })
         },
-        twin: |input, b| twin::runs(&input.word, &mut b.table).map(|v| vec![v]),
+        twin: |input, b| twin::runs(&input.word, &mut b.table).map(|v| padded([v])),
     },
     Call {
         name: "nodes, last position",
-        on_words: true,
+        on: On::Word,
         in_editions: true,
         library: |input, b| {
             let (w, n, edition) = (input.word.as_ptr(), input.word.len(), input.edition);
@@ -276,26 +348,76 @@ static CALLS: [Call; 11] = [
         },
         twin: |input, b| {
             let w = &input.word;
-            twin::nodes(w, input.edition, w.len() as u32, &mut b.table).map(|v| vec![v])
+            twin::nodes(w, input.edition, w.len() as u32, &mut b.table).map(|v| padded([v]))
         },
     },
     Call {
         name: "best split, fewest",
-        on_words: true,
+        on: On::Word,
         in_editions: true,
         library: |input, b| library_best(input, b, Choice::Fewest),
         twin: |input, b| twin_best(input, b, Choice::Fewest),
     },
     Call {
         name: "best split, most",
-        on_words: true,
+        on: On::Word,
         in_editions: true,
         library: |input, b| library_best(input, b, Choice::Most),
         twin: |input, b| twin_best(input, b, Choice::Most),
     },
     Call {
+        name: WHICH,
+        on: On::TwoWords,
+        in_editions: true,
+        library: |input, b| {
+            let (v, w, t) = (&input.word, &input.second, &mut b.work);
+            answer(|[which], index| unsafe {
+                raw::cegridom_which_first(
+                    v.as_ptr(),
+                    v.len(),
+                    w.as_ptr(),
+                    w.len(),
+                    input.edition,
+                    t.as_mut_ptr(),
+                    t.len(),
+                    which,
+                    index,
+                )
+            })
+        },
+        twin: |input, b| {
+            let (v, w) = (&input.word, &input.second);
+            twin::which_first(v, w, input.edition, &mut b.work).map(|which| padded([which]))
+        },
+    },
+    Call {
+        name: BLOCK,
+        on: On::TwoWords,
+        in_editions: true,
+        library: |input, b| {
+            let (v, w, t) = (&input.word, &input.second, &mut b.work);
+            answer(|[which, length], _| unsafe {
+                raw::cegridom_first_block(
+                    v.as_ptr(),
+                    v.len(),
+                    w.as_ptr(),
+                    w.len(),
+                    input.edition,
+                    t.as_mut_ptr(),
+                    t.len(),
+                    which,
+                    length,
+                )
+            })
+        },
+        twin: |input, b| {
+            let (v, w) = (&input.word, &input.second);
+            Ok(padded(twin::first_block(v, w, input.edition, &mut b.work)))
+        },
+    },
+    Call {
         name: "judge a split",
-        on_words: true,
+        on: On::Word,
         in_editions: true,
         library: |input, _| {
             let (w, n, edition) = (input.word.as_ptr(), input.word.len(), input.edition);
@@ -305,12 +427,12 @@ static CALLS: [Call; 11] = [
             })
         },
         twin: |input, _| {
-            twin::judge_split(&input.word, input.edition, &input.ends).map(|v| vec![v])
+            twin::judge_split(&input.word, input.edition, &input.ends).map(|v| padded([v]))
         },
     },
     Call {
         name: PATH,
-        on_words: true,
+        on: On::Word,
         in_editions: true,
         library: |input, b| {
             let (w, e, t) = (&input.word, &input.ends, &mut b.table);
@@ -330,12 +452,12 @@ static CALLS: [Call; 11] = [
         },
         twin: |input, b| {
             let (w, e) = (&input.word, &input.ends);
-            twin::path_of_split(w, input.edition, e, &mut b.table).map(|v| vec![v])
+            twin::path_of_split(w, input.edition, e, &mut b.table).map(|v| padded([v]))
         },
     },
     Call {
         name: "judge a path",
-        on_words: true,
+        on: On::Word,
         in_editions: true,
         library: |input, _| {
             let (w, n, edition) = (input.word.as_ptr(), input.word.len(), input.edition);
@@ -344,11 +466,13 @@ static CALLS: [Call; 11] = [
                 raw::cegridom_judge_path(w, n, edition, p.as_ptr(), p.len(), blocks, index)
             })
         },
-        twin: |input, _| twin::judge_path(&input.word, input.edition, &input.path).map(|v| vec![v]),
+        twin: |input, _| {
+            twin::judge_path(&input.word, input.edition, &input.path).map(|v| padded([v]))
+        },
     },
     Call {
         name: PAGE,
-        on_words: true,
+        on: On::Word,
         in_editions: true,
         library: |input, b| {
             let (w, e, out) = (&input.word, &input.ends, &mut b.page);
@@ -368,12 +492,12 @@ static CALLS: [Call; 11] = [
         },
         twin: |input, b| {
             let (w, e) = (&input.word, &input.ends);
-            twin::write_page(w, input.edition, e, &mut b.page).map(|v| vec![v])
+            twin::write_page(w, input.edition, e, &mut b.page).map(|v| padded([v]))
         },
     },
     Call {
         name: "write a plan",
-        on_words: false,
+        on: On::Ends,
         in_editions: false,
         library: |input, b| {
             let (n, e, out) = (input.word.len() as u32, &input.plan_ends, &mut b.line);
@@ -391,12 +515,12 @@ static CALLS: [Call; 11] = [
         },
         twin: |input, b| {
             let n = input.word.len() as u32;
-            twin::write_plan(n, &input.plan_ends, &mut b.line).map(|v| vec![v])
+            twin::write_plan(n, &input.plan_ends, &mut b.line).map(|v| padded([v]))
         },
     },
     Call {
         name: "read a plan",
-        on_words: false,
+        on: On::Ends,
         in_editions: false,
         library: |input, b| {
             let (s, t) = (&input.plan, &mut b.table);
@@ -412,7 +536,7 @@ static CALLS: [Call; 11] = [
                 )
             })
         },
-        twin: |input, b| twin::read_plan(&input.plan, &mut b.table).map(|(n, k)| vec![n, k]),
+        twin: |input, b| twin::read_plan(&input.plan, &mut b.table).map(|(n, k)| padded([n, k])),
     },
 ];
 
@@ -499,7 +623,7 @@ struct Row {
     call: &'static str,
     /// None where the call is told none.
     edition: Option<Edition>,
-    word: &'static str,
+    word: String,
     /// The library's time at each length, in seconds.
     times: [f64; LENGTHS.len()],
     /// The twin's at the last.
@@ -515,14 +639,14 @@ impl Row {
         let mut row = Row {
             call: call.name,
             edition: call.in_editions.then_some(edition),
-            word: if call.on_words {
-                word
-            } else {
-                "every second end"
+            word: match call.on {
+                On::Word => word.to_string(),
+                On::TwoWords => format!("{word}; Fibonacci"),
+                On::Ends => "every second end".to_string(),
             },
             times: [0.0; LENGTHS.len()],
             twin: 0.0,
-            given: Ok(vec![]),
+            given: Ok(Values::default()),
             to_first: None,
         };
         for (time, n) in row.times.iter_mut().zip(LENGTHS) {
@@ -569,7 +693,10 @@ impl Row {
 
 /// The words that a call is tried on: one is enough where its time does not depend on them.
 fn families(call: &Call) -> &'static [Family] {
-    &FAMILIES[..if call.on_words { FAMILIES.len() } else { 1 }]
+    match call.on {
+        On::Word | On::TwoWords => &FAMILIES,
+        On::Ends => &FAMILIES[..1],
+    }
 }
 
 /// The editions that a call is tried in: one is enough where it is told none.
@@ -579,7 +706,7 @@ fn editions(call: &Call) -> &'static [Edition] {
 }
 
 fn time(calls: impl Iterator<Item = &'static Call>) {
-    println!("Time of one call in microseconds, by the length of the word; growth is the factor for each doubling, on average from 512 to 4,096 (4 is quadratic); ratio is the library's time over the twin's at 4,096; to edition 1 is the library's time in edition 2 over that in edition 1, for the same word of 4,096 symbols and the same split or path. A split or path that is judged is the edition's own; in edition 2, for both times of the last column, edition 2's.\n");
+    println!("Time of one call in microseconds, by the length of the word, or of each of two; growth is the factor for each doubling, on average from 512 to 4,096 (4 is quadratic); ratio is the library's time over the twin's at 4,096; to edition 1 is the library's time in edition 2 over that in edition 1, for the same word of 4,096 symbols and the same split or path. A split or path that is judged is the edition's own; in edition 2, for both times of the last column, edition 2's.\n");
     println!(
         "| call | edition | word | answer | 512 | 1,024 | 2,048 | 4,096 | growth | twin, 4,096 | ratio | to edition 1 |"
     );
@@ -603,7 +730,7 @@ fn time(calls: impl Iterator<Item = &'static Call>) {
         greatest(best_splits.map(Row::longest)) * MILLI
     );
     for row in rows.iter().filter(|row| row.ratio() > MOST_RATIO) {
-        let (call, word, ratio) = (row.call, row.word, row.ratio());
+        let (call, word, ratio) = (row.call, &row.word, row.ratio());
         println!("Over {MOST_RATIO} times the twin: {call}, {word}: ratio {ratio:.2}.");
     }
 }
@@ -634,7 +761,7 @@ fn time_pages() {
             let mut buffers = Buffers::new(n);
             let times = times_of(path, &input, &mut buffers);
             let (mut without, mut with) = (f64::MAX, f64::MAX);
-            for _ in 0..PAGE_BATCHES {
+            for _ in 0..CLOSE_BATCHES {
                 without = without.min(batch(path.library, &input, &mut buffers, times));
                 with = with.min(batch(page.library, &input, &mut buffers, times));
             }
@@ -647,6 +774,62 @@ fn time_pages() {
                 (with - without) * NANO / blocks as f64
             );
         }
+    }
+}
+
+/// Of the batches of a long call the least is a matter of luck, to a few hundredths.
+fn median(mut times: Vec<f64>) -> f64 {
+    times.sort_by(f64::total_cmp);
+    times[times.len() / 2]
+}
+
+fn time_pairs() {
+    println!("\nTime of one call in microseconds, in edition 1, and what the calls on two words take of the time of their two fewest splits, one after the other; of each the median batch.\n");
+    println!(
+        "| words | length | two fewest splits | which first | of two | first block | of two |"
+    );
+    println!("|---|--:|--:|--:|--:|--:|--:|");
+    let calls = [WHICH, BLOCK].map(named);
+    let mut over = Vec::new();
+    let mut worst = 0.0f64;
+    for (name, make) in PAIRS {
+        for n in PAIR_LENGTHS {
+            let input = Input::pair(make(n), Edition::One);
+            let mut buffers = Buffers::new(n);
+            let times = times_of(calls[0], &input, &mut buffers);
+            let sides = [two_fewest, calls[0].library, calls[1].library];
+            let mut seen = sides.map(|_| Vec::new());
+            for _ in 0..CLOSE_BATCHES {
+                for (times_seen, side) in seen.iter_mut().zip(sides) {
+                    times_seen.push(batch(side, &input, &mut buffers, times));
+                }
+            }
+            let [two, which, block] = seen.map(median);
+            let ratios = [which / two, block / two];
+            println!(
+                "| {name} | {} | {:.2} | {:.2} | {:.2} | {:.2} | {:.2} |",
+                thousands(n),
+                two * MICRO,
+                which * MICRO,
+                ratios[0],
+                block * MICRO,
+                ratios[1]
+            );
+            for (ratio, call) in ratios.into_iter().zip(calls) {
+                worst = worst.max(ratio);
+                if ratio > MOST_OF_TWO {
+                    over.push(format!(
+                        "{}, {name}, {}: {ratio:.2}",
+                        call.name,
+                        thousands(n)
+                    ));
+                }
+            }
+        }
+    }
+    println!("\nWorst {worst:.2} of two fewest splits.");
+    for row in over {
+        println!("Over {MOST_OF_TWO} of two fewest splits: {row}.");
     }
 }
 
@@ -683,6 +866,21 @@ fn compare_pages() {
     }
 }
 
+/// The same for the pairs, of short words too, in both editions.
+fn compare_pairs() {
+    for (_, make) in PAIRS {
+        for n in &PAIR_LENGTHS[..2] {
+            for edition in [Edition::One, Edition::Two] {
+                let input = Input::pair(make(*n), edition);
+                for call in [WHICH, BLOCK].map(named) {
+                    let (mut ours, mut theirs) = (Buffers::new(*n), Buffers::new(*n));
+                    agreed(call, &input, &mut ours, &mut theirs).ok();
+                }
+            }
+        }
+    }
+}
+
 fn main() {
     // `cargo bench` adds `--bench` to what is asked for; `cargo test` does not.
     let arguments: Vec<String> = std::env::args().skip(1).collect();
@@ -690,15 +888,22 @@ fn main() {
     let wanted = wanted.map_or("", String::as_str);
     let chosen = CALLS.iter().filter(|call| call.name.contains(wanted));
     let pages = PAGE.contains(wanted);
+    let pairs = [WHICH, BLOCK].iter().any(|name| name.contains(wanted));
     if arguments.iter().any(|a| a == "--bench") {
         time(chosen);
         if pages {
             time_pages();
         }
+        if pairs {
+            time_pairs();
+        }
     } else {
         compare(chosen);
         if pages {
             compare_pages();
+        }
+        if pairs {
+            compare_pairs();
         }
     }
 }

@@ -2,7 +2,8 @@
 //!
 //! Safety of the calls into the archive: every pointer handed over comes from a slice, with that
 //! slice's own count of elements, or from a variable of the wrapper, and is valid for the whole
-//! call. Whatever is written comes from a `&mut` of its own, so that no two overlap.
+//! call. Whatever is written comes from a `&mut` of its own, so that nothing overlaps it; two words
+//! that are only read may overlap.
 
 use crate::raw::{self, RUN_PLACES, STEP_PLACES};
 use crate::Refusal;
@@ -41,6 +42,25 @@ impl Choice {
         match self {
             Choice::Fewest => 1,
             Choice::Most => 2,
+        }
+    }
+}
+
+/// Which of two words comes first.
+#[derive(Clone, Copy, Debug, PartialEq, Eq, Hash)]
+pub enum Which {
+    /// The first of the two: answer 1.
+    First,
+    /// The second of the two: answer 2.
+    Second,
+}
+
+impl Which {
+    /// The number of the answer, which the functions in [`raw`] give.
+    pub const fn number(self) -> u32 {
+        match self {
+            Which::First => 1,
+            Which::Second => 2,
         }
     }
 }
@@ -269,6 +289,103 @@ pub fn best_split_into(
             index,
         )
     })
+}
+
+/// Which of two words has fewer blocks in its fewest split. The first wins a tie; if only one can
+/// be split it is that one. The two may overlap or be the same.
+///
+/// Refusals: 1 for either; 9 for the longer; 2 if neither can be split. Time at most quadratic in
+/// the longer length, that of two fewest splits.
+///
+/// The working table needs the [`work_places`](crate::work_places) of the longer word, and those
+/// past them never change. After an answer, and after 2 too, its first so many places hold 0. After
+/// 1 and 9 it keeps its contents.
+///
+/// ```
+/// use cegridom::{which_first_into, work_places, Edition, Refusal, Which};
+///
+/// let one = Edition::One;
+/// let mut work = [9; work_places(8) + 1];
+/// assert_eq!(which_first_into(b"aabb", b"aabaabaa", one, &mut work), Ok(Which::Second));
+/// assert_eq!(work[..work_places(8)], [0; work_places(8)]);
+/// assert_eq!(work[work_places(8)], 9);
+///
+/// assert_eq!(which_first_into(b"aabb", b"ab", one, &mut work), Ok(Which::First));
+/// assert_eq!(which_first_into(b"ba", b"ab", one, &mut work), Err(Refusal::NoSplit));
+/// assert_eq!(which_first_into(b"aa", b"aaaaaaaaa", one, &mut work), Err(Refusal::ShortTable));
+/// ```
+pub fn which_first_into(
+    a: &[u8],
+    b: &[u8],
+    edition: Edition,
+    work: &mut [u32],
+) -> Result<Which, Refusal> {
+    let (a_n, a) = (a.len(), a.as_ptr());
+    let (b_n, b) = (b.len(), b.as_ptr());
+    let edition = edition.number();
+    let (work_places, work) = (work.len(), work.as_mut_ptr());
+    values(|[which], index| {
+        // SAFETY: as said at the head of this file.
+        unsafe {
+            raw::cegridom_which_first(a, a_n, b, b_n, edition, work, work_places, which, index)
+        }
+    })
+    .map(|[which]| match which {
+        1 => Which::First,
+        _ => Which::Second,
+    })
+}
+
+/// The first block of the word that [`which_first_into`] gives, in its fewest split, the one that
+/// [`best_split_into`] writes: a part of the caller's own bytes, from that word's first symbol to
+/// the first end. It is empty where that word is empty, and where [`which_first_into`] refuses; that
+/// function tells the two apart.
+///
+/// The working table is used and left as by [`which_first_into`], also where that refuses. Time at
+/// most quadratic in the longer length, that of two fewest splits.
+///
+/// ```
+/// use cegridom::{first_block_into, work_places, Edition};
+///
+/// let one = Edition::One;
+/// let mut work = [9; work_places(21)];
+/// let (short, long) = (b"aabb", b"abaabaababaabaabababa");
+/// // Both have two blocks, and the first wins a tie.
+/// assert_eq!(first_block_into(short, long, one, &mut work), b"aa");
+/// assert_eq!(first_block_into(long, short, one, &mut work), b"abaabaababaabaab");
+/// assert_eq!(first_block_into(short, b"aabaabaa", one, &mut work), b"aabaabaa");
+/// assert_eq!(first_block_into(short, b"", one, &mut work), b"");
+/// assert_eq!(first_block_into(b"ba", b"ab", one, &mut work), b"");
+/// ```
+pub fn first_block_into<'a>(
+    a: &'a [u8],
+    b: &'a [u8],
+    edition: Edition,
+    work: &mut [u32],
+) -> &'a [u8] {
+    let edition = edition.number();
+    let (work_places, work) = (work.len(), work.as_mut_ptr());
+    let [which, length] = values(|[which, length], _| {
+        // SAFETY: as said at the head of this file.
+        unsafe {
+            raw::cegridom_first_block(
+                a.as_ptr(),
+                a.len(),
+                b.as_ptr(),
+                b.len(),
+                edition,
+                work,
+                work_places,
+                which,
+                length,
+            )
+        }
+    })
+    .unwrap_or_default();
+    // The call refuses nothing and gives no more than the word's length: the two defaults only make
+    // this total. A length of 0 is the empty part of either word.
+    let word = if which == 2 { b } else { a };
+    word.get(..length as usize).unwrap_or_default()
 }
 
 /// Judges a split, given by its ends: the number of its blocks, or what is wrong with it.

@@ -26,19 +26,20 @@
 //!
 //! Every input gets an answer: `Ok`, or the first [`Refusal`] whose condition is met, in the order
 //! that the function's text lists them, by their numbers. An accepted answer changes only the front
-//! of a lent table; a refusal changes none of it. The working table of [`best_split_into`] is the
-//! exception, as its text says.
+//! of a lent table; a refusal changes none of it. A working table is the exception, as the text of
+//! each function that has one says. [`first_block_into`] alone refuses nothing: it gives an empty
+//! part where [`which_first_into`] refuses.
 //!
 //! # Memory and threads
 //!
-//! [`judge_split`], [`judge_path`], [`version`] and the functions named `.._into`, which write to
+//! [`judge_split`], [`judge_path`], [`version`] and the functions named `.._into`, which work in
 //! tables that the caller lends, allocate nothing. The others allocate their tables; they come with
 //! the feature `alloc`, which is on by default. Without it the crate needs `core` alone. The archive
 //! needs the C library's `memset` and `memcpy` and nothing else.
 //!
 //! No call keeps state, so any number of threads may call at once. What the archive takes of the
 //! stack is said in the text of each function, 97 KiB at most; where nothing is said, it is under
-//! 200 bytes.
+//! 400 bytes.
 //!
 //! # What is proved
 //!
@@ -63,14 +64,14 @@ pub mod raw;
 mod refusal;
 
 pub use lent::{
-    best_split_into, judge_path, judge_split, nodes_into, part_into, path_of_split_into,
-    read_plan_into, runs_into, version, write_page_into, write_plan_into, Choice, Edition, Part,
-    Run, Step,
+    best_split_into, first_block_into, judge_path, judge_split, nodes_into, part_into,
+    path_of_split_into, read_plan_into, runs_into, version, which_first_into, write_page_into,
+    write_plan_into, Choice, Edition, Part, Run, Step, Which,
 };
 #[cfg(feature = "alloc")]
 pub use owned::{
-    best_sizes, best_split, nodes, part, path_of_split, read_plan, runs, units, write_page,
-    write_plan, Plan,
+    best_sizes, best_split, first_block, nodes, part, path_of_split, read_plan, runs, units,
+    which_first, write_page, write_plan, Plan,
 };
 pub use refusal::Refusal;
 
@@ -80,7 +81,7 @@ pub const LIMIT: usize = 4096;
 /// What the working table of [`best_split_into`] holds for a leading part that has no split.
 pub const NONE: u32 = 4_294_967_295;
 
-/// The places that the working table of [`best_split_into`] needs for a word of `n` symbols.
+/// The places that a working table needs for a word of `n` symbols; of two words, for the longer.
 ///
 /// ```
 /// assert_eq!(cegridom::work_places(8), 36);

@@ -1,9 +1,9 @@
 //! The calls that allocate their tables.
 
 use crate::{
-    best_split_into, most_ends, nodes_into, page_bytes, part_into, path_of_split_into, plan_bytes,
-    read_plan_into, runs_into, work_places, write_page_into, write_plan_into, Choice, Edition,
-    Part, Refusal, Run, LIMIT, NONE,
+    best_split_into, first_block_into, most_ends, nodes_into, page_bytes, part_into,
+    path_of_split_into, plan_bytes, read_plan_into, runs_into, which_first_into, work_places,
+    write_page_into, write_plan_into, Choice, Edition, Part, Refusal, Run, Which, LIMIT, NONE,
 };
 use alloc::vec;
 use alloc::vec::Vec;
@@ -44,6 +44,11 @@ fn unit_table(word: &[u8], first: u32, last: u32) -> Vec<u32> {
     let before = (first as usize).saturating_sub(1);
     let end = allowed(word.len()).min(last as usize);
     vec![0; end.saturating_sub(before)]
+}
+
+/// A working table for two words.
+fn work_table(a: &[u8], b: &[u8]) -> Vec<u32> {
+    vec![0; work_places(allowed(a.len().max(b.len())))]
 }
 
 /// The unit, the turns and the rest of the symbols at the positions `first` to `last`, and whether
@@ -174,6 +179,50 @@ pub fn best_sizes(
         }
         Err(refusal) => Err(refusal),
     }
+}
+
+/// Which of two words has fewer blocks in its fewest split. The first wins a tie; if only one can
+/// be split it is that one.
+///
+/// Refusals: 1 for either; 2 if neither can be split. Allocates the [`work_places`] of the longer
+/// word while it works.
+///
+/// ```
+/// use cegridom::{which_first, Edition, Refusal, Which};
+///
+/// let one = Edition::One;
+/// assert_eq!(which_first(b"aabb", b"aabaabaa", one), Ok(Which::Second));
+/// assert_eq!(which_first(b"aabaabaa", b"aabb", one), Ok(Which::First));
+/// assert_eq!(which_first(b"aabb", b"abaabaababaabaabababa", one), Ok(Which::First));
+/// assert_eq!(which_first(b"ab", b"aabb", one), Ok(Which::Second));
+/// assert_eq!(which_first(b"ab", b"baa", one), Err(Refusal::NoSplit));
+///
+/// // Only the second has blocks of three turns.
+/// assert_eq!(which_first(b"aabaabaa", b"aaabbb", Edition::Two), Ok(Which::Second));
+/// ```
+pub fn which_first(a: &[u8], b: &[u8], edition: Edition) -> Result<Which, Refusal> {
+    which_first_into(a, b, edition, &mut work_table(a, b))
+}
+
+/// The first block of the word that [`which_first`] gives, in its fewest split, the one that
+/// [`best_split`] gives: a part of the caller's own bytes. It is empty where that word is empty, and
+/// where [`which_first`] refuses; that function tells the two apart.
+///
+/// Allocates the [`work_places`] of the longer word while it works.
+///
+/// ```
+/// use cegridom::{first_block, Edition};
+///
+/// let one = Edition::One;
+/// assert_eq!(first_block(b"aabb", b"aabaabaa", one), b"aabaabaa");
+/// assert_eq!(first_block(b"aabb", b"abaabaababaabaabababa", one), b"aa");
+/// assert_eq!(first_block(b"abaabaababaabaabababa", b"aabb", one), b"abaabaababaabaab");
+/// assert_eq!(first_block(b"aabb", b"", one), b"");
+/// assert_eq!(first_block(b"ab", b"baa", one), b"");
+/// assert_eq!(first_block(b"aabaabaa", b"aaabbb", Edition::Two), b"aaa");
+/// ```
+pub fn first_block<'a>(a: &'a [u8], b: &'a [u8], edition: Edition) -> &'a [u8] {
+    first_block_into(a, b, edition, &mut work_table(a, b))
 }
 
 /// The run number of each block of a split: that of the one run that encloses the block and has its

@@ -5,8 +5,8 @@
 //! the library. A slice passes as a pointer and its count of elements. The result is 0 for
 //! accepted, else the refusal's number; `*index` is that of refusals 3 and 4, else 0; the other
 //! values are 0 after a refusal. [`Refusal::check`](crate::Refusal::check) turns result and index
-//! into an error. An edition is 1 or 2, else the refusal is 12. The cost and the stack of a call
-//! are those of its wrapper.
+//! into an error. [`cegridom_first_block`] alone refuses nothing and has no index. An edition is 1
+//! or 2, else the refusal is 12. The cost and the stack of a call are those of its wrapper.
 //!
 //! # Safety
 //!
@@ -105,6 +105,36 @@ extern "C" {
         work_places: usize,
         size: *mut u32,
         index: *mut u32,
+    ) -> u32;
+
+    /// Behind [`which_first_into`](crate::which_first_into). `*which` is 1 for `a`, 2 for `b`.
+    /// Refusals: 1 for either; 12; 9 for the longer; 2 if neither can be split. After 12 the working
+    /// table keeps its contents, as after 1 and 9.
+    pub fn cegridom_which_first(
+        a: *const u8,
+        a_n: usize,
+        b: *const u8,
+        b_n: usize,
+        edition: u32,
+        work: *mut u32,
+        work_places: usize,
+        which: *mut u32,
+        index: *mut u32,
+    ) -> u32;
+
+    /// Behind [`first_block_into`](crate::first_block_into). `*which` is as
+    /// [`cegridom_which_first`] gives it, and the block is the first `*length` symbols of that word.
+    /// It refuses nothing: the result is 0 always, and where that call refuses both values are 0.
+    pub fn cegridom_first_block(
+        a: *const u8,
+        a_n: usize,
+        b: *const u8,
+        b_n: usize,
+        edition: u32,
+        work: *mut u32,
+        work_places: usize,
+        which: *mut u32,
+        length: *mut u32,
     ) -> u32;
 
     /// Behind [`judge_split`](crate::judge_split). Refusals: 1; 12; for each end in turn 3, 4; 5.

@@ -16,9 +16,9 @@ use core::fmt;
 #[derive(Clone, Copy, Debug, PartialEq, Eq, Hash)]
 #[non_exhaustive]
 pub enum Refusal {
-    /// 1: the word is longer than [`LIMIT`].
+    /// 1: the word, or either of two, is longer than [`LIMIT`].
     TooLong,
-    /// 2: no split exists.
+    /// 2: no split exists; of two words, neither has one.
     NoSplit,
     /// 3: an end is not above the one before it (0 before the first), or is above the length.
     BadEnd {
@@ -40,7 +40,8 @@ pub enum Refusal {
     TooFewPlaces,
     /// 8: a choice other than 1 or 2. Only the functions in [`raw`](crate::raw) take such a one.
     BadChoice,
-    /// 9: a working table of fewer than [`work_places`](crate::work_places) places.
+    /// 9: a working table of fewer than [`work_places`](crate::work_places) places; of two words,
+    /// for the longer.
     ShortTable,
     /// 10: a path with an odd count of numbers. Only the functions in [`raw`](crate::raw) take such
     /// a one.
@@ -122,7 +123,7 @@ impl Refusal {
 impl fmt::Display for Refusal {
     fn fmt(&self, f: &mut fmt::Formatter<'_>) -> fmt::Result {
         match self {
-            Refusal::TooLong => write!(f, "the word is longer than {LIMIT}"),
+            Refusal::TooLong => write!(f, "a word is longer than {LIMIT}"),
             Refusal::NoSplit => write!(f, "no split exists"),
             Refusal::BadEnd { index } => write!(
                 f,

@@ -6,7 +6,7 @@
 mod reference;
 mod words;
 
-use cegridom::{raw, Choice, Edition, Refusal, Step};
+use cegridom::{raw, Choice, Edition, Refusal, Step, Which};
 use reference::Outcome::{self, Accepted, Refused};
 use reference::{Best, Run, EDITIONS, LIMIT};
 use words::{every_word, fibonacci, last_differs, thue_morse};
@@ -31,7 +31,8 @@ struct Lent<T> {
 impl<T: Copy + PartialEq + std::fmt::Debug + TryFrom<u64>> Lent<T> {
     fn new(count: usize) -> Lent<T> {
         let places: Vec<T> = (0..count + 2 * MARGIN)
-            .map(|i| T::try_from((7 * i as u64 + 3) % 251).ok().unwrap())
+            // never 0, which calls write
+            .map(|i| T::try_from((7 * i as u64 + 3) % 250 + 1).ok().unwrap())
             .collect();
         Lent {
             before: places.clone(),
@@ -237,6 +238,55 @@ impl Checker {
         self.count(&expected);
     }
 
+    fn which_first(&mut self, a: &Known, b: &Known, edition: u32, work_places: usize) {
+        let mut work = Lent::new(work_places);
+        let (mut which, mut index) = (GUARD, GUARD);
+        let t = work.table();
+        let result = unsafe {
+            raw::cegridom_which_first(
+                a.word.as_ptr(),
+                a.word.len(),
+                b.word.as_ptr(),
+                b.word.len(),
+                edition,
+                t.as_mut_ptr(),
+                t.len(),
+                &mut which,
+                &mut index,
+            )
+        };
+        let (words, fewest) = pair(a, b, edition);
+        let (expected, front) = reference::which_call(words, edition, fewest, work_places);
+        compare(result, index, &[which], &expected, "which first");
+        work.changed_to(&front, "the working table of which first");
+        self.count(&expected);
+    }
+
+    fn first_block(&mut self, a: &Known, b: &Known, edition: u32, work_places: usize) {
+        let mut work = Lent::new(work_places);
+        let mut values = [GUARD; 2];
+        let t = work.table();
+        let [which, length] = &mut values;
+        let result = unsafe {
+            raw::cegridom_first_block(
+                a.word.as_ptr(),
+                a.word.len(),
+                b.word.as_ptr(),
+                b.word.len(),
+                edition,
+                t.as_mut_ptr(),
+                t.len(),
+                which,
+                length,
+            )
+        };
+        let (words, fewest) = pair(a, b, edition);
+        let (expected, front) = reference::first_block_call(words, edition, fewest, work_places);
+        compare(result, 0, &values, &expected, "first block");
+        work.changed_to(&front, "the working table of first block");
+        self.count(&expected);
+    }
+
     fn judge_split(&mut self, w: &[u8], edition: u32, ends: &[u32]) {
         let (mut blocks, mut index) = (GUARD, GUARD);
         let result = unsafe {
@@ -403,6 +453,18 @@ impl Checker {
         }
     }
 
+    fn two(&mut self, a: &Known, b: &Known, edition: u32, work_places: usize) {
+        self.which_first(a, b, edition, work_places);
+        self.first_block(a, b, edition, work_places);
+    }
+
+    fn two_sizes(&mut self, a: &Known, b: &Known, edition: u32) {
+        let longer = a.word.len().max(b.word.len());
+        for work_places in around_in(edition, 4 * (longer + 1), longer) {
+            self.two(a, b, edition, work_places);
+        }
+    }
+
     fn path_sizes(&mut self, known: &Known, edition: u32, ends: &[u32]) {
         for places in around_in(edition, ends.len(), known.word.len()) {
             self.path_of_split(known, edition, ends, places);
@@ -466,6 +528,12 @@ fn around_in(edition: u32, exact: usize, n: usize) -> Vec<usize> {
         return vec![exact];
     }
     around(exact, n)
+}
+
+/// Two words and the fewest split of each.
+fn pair<'a>(a: &'a Known, b: &'a Known, edition: u32) -> ([&'a [u8]; 2], [&'a Best; 2]) {
+    let both = [a, b];
+    (both.map(|k| k.word), both.map(|k| k.best(edition, 1)))
 }
 
 /// The bytes of a page with a line for each end.
@@ -684,6 +752,108 @@ fn short_words_best_split() {
         }
     });
     checker.report("best split of short words");
+}
+
+fn all_known(words: &[Vec<u8>]) -> Vec<Known<'_>> {
+    words.iter().map(|w| Known::of(w)).collect()
+}
+
+/// Every pair of shorter words, in both orders, and each word beside itself.
+#[test]
+fn short_words_in_pairs() {
+    let mut checker = Checker::default();
+    for (symbols, longest) in [(2, 7), (3, 4)] {
+        let mut words = Vec::new();
+        every_word(symbols, longest, |w| words.push(w.to_vec()));
+        let known = all_known(&words);
+        for a in &known {
+            for b in &known {
+                for edition in EDITIONS {
+                    checker.two_sizes(a, b, edition);
+                }
+                for edition in NO_EDITIONS {
+                    checker.two(a, b, edition, 0);
+                    checker.two(a, b, edition, 4 * (longest + 1));
+                }
+            }
+        }
+    }
+    checker.report("pairs of short words");
+}
+
+/// Words to pair: with structure, of several lengths; blocks joined, of two turns and of three,
+/// over few symbols and over all; powers; and some of them again with every bit of each symbol
+/// changed, so that the two tie and one has symbols above 127.
+fn words_to_pair(numbers: &mut Numbers) -> Vec<Vec<u8>> {
+    let mut words: Vec<Vec<u8>> = [13, 40, 99].into_iter().flat_map(structured).collect();
+    for (turns, symbols) in [(2, 2), (2, 256), (3, 2), (3, 256)] {
+        for longest in [1, 6, 20] {
+            words.push(numbers.split(80, turns, longest, symbols).0);
+        }
+    }
+    for (span, turns) in [(1, 5), (7, 2), (7, 3), (12, 9)] {
+        words.push(numbers.word(span, 3).repeat(turns));
+    }
+    for i in (0..words.len()).step_by(5) {
+        words.push(words[i].iter().map(|symbol| !symbol).collect());
+    }
+    words
+}
+
+#[test]
+fn long_words_in_pairs() {
+    let mut checker = Checker::default();
+    let mut numbers = Numbers(521_288_629);
+    let words = words_to_pair(&mut numbers);
+    let known = all_known(&words);
+    for a in &known {
+        for b in &known {
+            for edition in EDITIONS {
+                checker.two_sizes(a, b, edition);
+            }
+            let longer = a.word.len().max(b.word.len());
+            for edition in NO_EDITIONS {
+                checker.two(a, b, edition, 4 * (longer + 1));
+            }
+        }
+    }
+    // Parts of one word, most of which overlap.
+    for w in &words {
+        for _ in 0..12 {
+            let (from, to) = (numbers.below(w.len() + 1), numbers.below(w.len() + 1));
+            let (front, back) = (Known::of(&w[..to]), Known::of(&w[from..]));
+            for edition in EDITIONS {
+                checker.two_sizes(&front, &back, edition);
+                checker.two_sizes(&back, &front, edition);
+            }
+        }
+    }
+    checker.report("long words in pairs");
+}
+
+/// The longest words beside one another and beside short ones.
+#[test]
+fn longest_words_in_pairs() {
+    let mut checker = Checker::default();
+    let mut numbers = Numbers(123_456_789);
+    let words = [
+        vec![b'a'; LIMIT],
+        fibonacci(LIMIT),
+        numbers.split(LIMIT, 2, 40, 3).0,
+        numbers.split(LIMIT, 3, 40, 3).0,
+        last_differs(LIMIT),
+        b"aabb".to_vec(),
+        vec![],
+    ];
+    let known = all_known(&words);
+    for a in &known {
+        for b in &known {
+            for edition in EDITIONS {
+                checker.two_sizes(a, b, edition);
+            }
+        }
+    }
+    checker.report("longest words in pairs");
 }
 
 /// Every rising series of ends up to n + 1, for words of at most eight symbols.
@@ -1007,6 +1177,19 @@ fn words_over_the_limit() {
             }
         }
     }
+    // Either of two words, or both.
+    for n in [4097, 70_000] {
+        for other in [4097, 70_000, LIMIT, 2, 1, 0] {
+            let (long, other) = (vec![b'a'; n], vec![b'a'; other]);
+            let (long, other) = (Known::of(&long), Known::of(&other));
+            for edition in [0, 1, 2, 3] {
+                for work_places in [0, 4 * 4097, 4 * 4098, 4 * 70_001] {
+                    checker.two(&long, &other, edition, work_places);
+                    checker.two(&other, &long, edition, work_places);
+                }
+            }
+        }
+    }
     for n in [4097, 5000, 9999, 10_000, u32::MAX] {
         for ends in [&[][..], &[n], &[0], &[n, n]] {
             checker.write_plan(n, ends, 0);
@@ -1144,6 +1327,29 @@ fn every_refusal_in_its_order() {
     expect(&mut checker, 0, &|c| c.best_split(&known, 1, 2, 2, 36));
     expect(&mut checker, 7, &|c| c.best_split(&equal, 2, 2, 1, 28));
     expect(&mut checker, 0, &|c| c.best_split(&equal, 2, 2, 2, 28));
+    // which first: 1 for either; 12; 9 for the longer; 2 if neither splits
+    for (a, b) in [(&too_long, &baa), (&baa, &too_long), (&too_long, &too_long)] {
+        expect(&mut checker, 1, &|c| c.which_first(a, b, 0, 0));
+        expect(&mut checker, 1, &|c| c.which_first(a, b, 1, 4 * 4098));
+    }
+    for (a, b) in [(&baa, &known), (&known, &baa)] {
+        expect(&mut checker, 12, &|c| c.which_first(a, b, 0, 0));
+        expect(&mut checker, 12, &|c| c.which_first(a, b, 3, 36));
+        expect(&mut checker, 9, &|c| c.which_first(a, b, 1, 16));
+        expect(&mut checker, 9, &|c| c.which_first(a, b, 2, 35));
+        expect(&mut checker, 2, &|c| c.which_first(a, b, 2, 36));
+        expect(&mut checker, 0, &|c| c.which_first(a, b, 1, 36));
+    }
+    expect(&mut checker, 9, &|c| c.which_first(&baa, &baa, 1, 15));
+    expect(&mut checker, 2, &|c| c.which_first(&baa, &baa, 1, 16));
+    expect(&mut checker, 0, &|c| c.which_first(&empty, &baa, 1, 16));
+    expect(&mut checker, 0, &|c| c.which_first(&baa, &empty, 1, 16));
+    // first block: none
+    expect(&mut checker, 0, &|c| c.first_block(&baa, &too_long, 0, 0));
+    expect(&mut checker, 0, &|c| c.first_block(&baa, &known, 0, 0));
+    expect(&mut checker, 0, &|c| c.first_block(&baa, &known, 1, 35));
+    expect(&mut checker, 0, &|c| c.first_block(&baa, &known, 2, 36));
+    expect(&mut checker, 0, &|c| c.first_block(&baa, &known, 1, 36));
     // judge a split: 1; 12; 3, 4 for each end; 5
     expect(&mut checker, 1, &|c| c.judge_split(&long, 0, &[0]));
     expect(&mut checker, 12, &|c| c.judge_split(word, 0, &[0]));
@@ -1280,6 +1486,11 @@ fn as_part(values: &[u32]) -> cegridom::Part {
     }
 }
 
+fn as_which(values: &[u32]) -> Which {
+    let mut both = [Which::First, Which::Second].into_iter();
+    both.find(|which| [which.number()] == values).unwrap()
+}
+
 fn as_runs(flat: &[u32]) -> Vec<cegridom::Run> {
     flat.chunks_exact(raw::RUN_PLACES)
         .map(|r| cegridom::Run {
@@ -1380,6 +1591,75 @@ impl Wrappers {
             assert_eq!(work, table(&work_front, work_places, GUARD));
         }
         ends
+    }
+
+    /// A part of two words is the one expected, by which word and how long: of the caller's own
+    /// bytes, not only equal to them.
+    fn lies_in(&mut self, words: [&[u8]; 2], part: &[u8], expected: Outcome) {
+        let Accepted(values) = expected else {
+            panic!("the call refuses nothing");
+        };
+        assert_eq!(part.len(), values[1] as usize);
+        if values[0] > 0 {
+            let word = words[values[0] as usize - 1];
+            assert_eq!(part.as_ptr(), word.as_ptr());
+        }
+        self.made += 1;
+    }
+
+    fn two(&mut self, a: &Known, b: &Known, edition: Edition) {
+        let number = edition.number();
+        let (words, fewest) = pair(a, b, number);
+        let [a, b] = words;
+        let which = |places| reference::which_call(words, number, fewest, places);
+        let block = |places| reference::first_block_call(words, number, fewest, places);
+        let got = cegridom::which_first(a, b, edition);
+        self.agree(got, said(which(MANY).0, as_which));
+        let got = cegridom::first_block(a, b, edition);
+        self.lies_in(words, got, block(MANY).0);
+        let longer = a.len().max(b.len());
+        for places in around(cegridom::work_places(longer), longer) {
+            let mut work = vec![GUARD; places];
+            let (outcome, front) = which(places);
+            let got = cegridom::which_first_into(a, b, edition, &mut work);
+            self.agree(got, said(outcome, as_which));
+            assert_eq!(work, table(&front, places, GUARD));
+            let mut work = vec![GUARD; places];
+            let (outcome, front) = block(places);
+            let got = cegridom::first_block_into(a, b, edition, &mut work);
+            self.lies_in(words, got, outcome);
+            assert_eq!(work, table(&front, places, GUARD));
+        }
+    }
+
+    /// What the calls on two words promise of one another and of best split, by the library's own
+    /// answers.
+    fn promises(&mut self, a: &[u8], b: &[u8], edition: Edition) {
+        let [first, second] = [a, b].map(|w| cegridom::best_split(w, edition, Choice::Fewest));
+        let size = |ends: &Result<Vec<u32>, Refusal>| ends.as_ref().map(Vec::len).ok();
+        let tie = size(&first) == size(&second);
+        let which = cegridom::which_first(a, b, edition);
+        let swapped = match which {
+            Ok(Which::First) if !tie => Ok(Which::Second),
+            Ok(Which::Second) => Ok(Which::First),
+            tied_or_refused => tied_or_refused,
+        };
+        assert_eq!(cegridom::which_first(b, a, edition), swapped);
+        let block = cegridom::first_block(a, b, edition);
+        let chosen = match which {
+            Ok(Which::First) => Some((a, first)),
+            Ok(Which::Second) => Some((b, second)),
+            Err(_) => None,
+        };
+        match chosen {
+            Some((word, ends)) => {
+                let end = ends.unwrap().first().map_or(0, |&end| end as usize);
+                assert_eq!(block, &word[..end]);
+                assert_eq!(block.is_empty(), word.is_empty());
+            }
+            None => assert!(block.is_empty()),
+        }
+        self.made += 1;
     }
 
     /// Gives the run number of each block; none where the ends are not those of a split.
@@ -1485,4 +1765,42 @@ fn wrappers() {
         }
     }
     println!("the wrappers: {} comparisons", wrappers.made);
+}
+
+/// The functions of the crate on two words.
+#[test]
+fn wrappers_on_two_words() {
+    let mut wrappers = Wrappers::default();
+    let mut both = |a: &Known, b: &Known| {
+        for edition in [Edition::One, Edition::Two] {
+            wrappers.two(a, b, edition);
+            wrappers.promises(a.word, b.word, edition);
+        }
+    };
+    let mut words = structured(60);
+    words.push([0x80, 0xff, 0xff].repeat(5));
+    every_word(2, 6, |w| words.push(w.to_vec()));
+    let known = all_known(&words);
+    for a in &known {
+        for b in &known {
+            both(a, b);
+        }
+    }
+    // Parts of one word, of which only the address tells the equal ones apart.
+    for w in &words[..10] {
+        for length in 0..20.min(w.len()) {
+            let (front, back) = (&w[..length], &w[w.len() - length..]);
+            both(&Known::of(front), &Known::of(back));
+            both(&Known::of(w), &Known::of(front));
+            both(&Known::of(back), &Known::of(w));
+        }
+    }
+    let words = [LIMIT, LIMIT + 1, 2, 1, 0].map(|n| vec![b'a'; n]);
+    let known = all_known(&words);
+    for a in &known {
+        for b in &known {
+            both(a, b);
+        }
+    }
+    println!("the wrappers on two words: {} comparisons", wrappers.made);
 }

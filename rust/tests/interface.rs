@@ -1,7 +1,8 @@
 //! What the types of the crate promise: refusals and their numbers, lengths that do not fit, a page
-//! byte for byte, what the units of a part and a page take of memory, and the example `fewest`.
+//! byte for byte, the first block as a part of the caller's bytes, what the units of a part, a page
+//! and the calls on two words take of memory, and the example `fewest`.
 
-use cegridom::{Choice, Edition, Refusal, LIMIT};
+use cegridom::{Choice, Edition, Refusal, Which, LIMIT};
 use std::alloc::{GlobalAlloc, Layout, System};
 use std::cell::Cell;
 use std::error::Error;
@@ -72,6 +73,12 @@ fn choices_have_their_numbers() {
 }
 
 #[test]
+fn the_words_of_a_pair_have_their_numbers() {
+    assert_eq!(Which::First.number(), 1);
+    assert_eq!(Which::Second.number(), 2);
+}
+
+#[test]
 fn a_length_over_32_bits_is_too_long() {
     let n = (1 << 32) + 8;
     let mut out = [b'.'; 100];
@@ -125,6 +132,39 @@ fn a_page_has_a_line_a_block() {
     let refused = cegridom::write_page_into(b"aabb", Edition::One, &[2, 4], &mut out);
     assert_eq!(refused, Err(Refusal::TooFewPlaces));
     assert_eq!(out, [b'.'; 62]);
+}
+
+#[test]
+fn the_first_block_is_a_part_of_the_callers_bytes() {
+    let bytes = b"abaabaababaabaabababa aabb aabaabaa".to_vec();
+    let [long, two, one] = [&bytes[..21], &bytes[22..26], &bytes[27..]];
+    let edition = Edition::One;
+    // The part lives as long as the words do, and longer than the table.
+    let block = {
+        let mut work = vec![9; cegridom::work_places(21)];
+        cegridom::first_block_into(long, two, edition, &mut work)
+    };
+    assert_eq!(block.as_ptr_range(), bytes[..16].as_ptr_range());
+    let range = |a, b| cegridom::first_block(a, b, edition).as_ptr_range();
+    assert_eq!(range(two, long), bytes[22..24].as_ptr_range());
+    assert_eq!(range(two, one), bytes[27..35].as_ptr_range());
+    assert_eq!(range(one, two), bytes[27..35].as_ptr_range());
+    // Of two equal words that overlap, the first; and of one word given twice.
+    let equal = [b'\xff'; 5];
+    assert_eq!(range(&equal[1..], &equal[..4]), equal[1..].as_ptr_range());
+    assert_eq!(range(&equal, &equal), equal.as_ptr_range());
+    // An empty word has fewer blocks than any other; neither of ab and ba has a split.
+    let empty = &bytes[26..26];
+    assert_eq!(
+        cegridom::which_first(one, empty, edition),
+        Ok(Which::Second)
+    );
+    assert_eq!(range(one, empty), empty.as_ptr_range());
+    assert_eq!(
+        cegridom::which_first(b"ab", b"ba", edition),
+        Err(Refusal::NoSplit)
+    );
+    assert!(cegridom::first_block(b"ab", b"ba", edition).is_empty());
 }
 
 // ---- memory
@@ -235,6 +275,47 @@ fn a_page_allocates_its_bytes() {
         cegridom::write_page_into(b"aabaabaa", Edition::One, &[2, 8], &mut out)
     });
     assert_eq!(bytes, 0);
+}
+
+/// What the functions on two words allocate, with tables of their own and with lent ones.
+fn pair_allocations(a: &[u8], b: &[u8]) -> [usize; 4] {
+    let mut work = [0; cegridom::work_places(LIMIT)];
+    let one = Edition::One;
+    [
+        numbers_allocated(|| cegridom::which_first(a, b, one).is_ok()).0,
+        numbers_allocated(|| cegridom::first_block(a, b, one).len()).0,
+        numbers_allocated(|| cegridom::which_first_into(a, b, one, &mut work).is_ok()).0,
+        numbers_allocated(|| cegridom::first_block_into(a, b, one, &mut work).len()).0,
+    ]
+}
+
+#[test]
+fn two_words_allocate_a_working_table() {
+    let longest = [b'a'; LIMIT];
+    for (a, b) in [
+        (&b"aabaabaa"[..], &b"aabb"[..]),
+        (b"aabb", b"aabaabaa"),
+        (b"ab", b"baa"),
+        (b"", b""),
+        (&longest, b"aa"),
+        (b"aa", &longest),
+    ] {
+        let places = cegridom::work_places(a.len().max(b.len()));
+        assert_eq!(pair_allocations(a, b), [places, places, 0, 0]);
+    }
+    // No more than for empty words, where either is too long.
+    let too_long = vec![b'a'; 1_000_000];
+    let least = cegridom::work_places(0);
+    for (a, b) in [
+        (&too_long[..], &b"aa"[..]),
+        (b"aa", &too_long),
+        (&too_long, &too_long),
+        (&too_long[..LIMIT + 1], &longest),
+    ] {
+        assert_eq!(pair_allocations(a, b), [least, least, 0, 0]);
+        let refused = cegridom::which_first(a, b, Edition::One);
+        assert_eq!(refused, Err(Refusal::TooLong));
+    }
 }
 
 // ---- the example

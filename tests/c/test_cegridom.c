@@ -29,12 +29,13 @@ static uint32_t index_, a, b, c, d;
 static void reset(void) { index_ = a = b = c = d = GUARD; }
 
 static uint32_t table[CEGRIDOM_RUN_PLACES(CEGRIDOM_LIMIT) + 1];
-static uint32_t work[CEGRIDOM_WORK_PLACES(CEGRIDOM_LIMIT) + 1];
+static uint32_t work[CEGRIDOM_WORK_PLACES(CEGRIDOM_LIMIT + 1) + 2];
 static uint8_t longest[CEGRIDOM_LIMIT + 1];
 static uint8_t out[CEGRIDOM_PLAN_BYTES(CEGRIDOM_LIMIT) + 1];
 static uint8_t page[CEGRIDOM_PAGE_BYTES(CEGRIDOM_MOST_ENDS(CEGRIDOM_LIMIT)) + 9];
 
 #define TABLE_PLACES (sizeof table / sizeof *table)
+#define WORK (sizeof work / sizeof *work)
 
 static void fill(uint32_t *places, size_t count) {
     for (size_t i = 0; i < count; i++) {
@@ -455,6 +456,194 @@ static void test_best_split(void) {
         CHECK(cegridom_best_split(longest, CEGRIDOM_LIMIT + 1, edition, 3, NULL, 0, NULL, 0, &a,
                                   &index_) == CEGRIDOM_TOO_LONG);
         CHECK(a == 0 && index_ == 0);
+    }
+}
+
+/* What the calls on two words are lent of the working table, so that a place before it and one
+   after it are watched too. */
+static uint32_t *const scratch = work + 1;
+#define SCRATCH (WORK - 2)
+
+/* The first places of what is lent are 0, and all others untouched. */
+static int cleared(size_t count) {
+    int zero = 1;
+    for (size_t i = 0; i < count; i++) {
+        zero &= scratch[i] == 0;
+    }
+    return zero && work[0] == GUARD && untouched(scratch + count, WORK - 1 - count);
+}
+
+/* A word and what is known of its fewest split: the size, CEGRIDOM_NONE for none, and the first end,
+   0 for none. */
+struct layup {
+    const uint8_t *word;
+    size_t n;
+    uint32_t size, end;
+};
+
+static size_t longer(const struct layup *k, const struct layup *l) {
+    return k->n > l->n ? k->n : l->n;
+}
+
+/* Both calls on two words: the result of which first, and which word and how long its first block
+   is, both 0 where which first refuses. */
+static void paired(const struct layup *k, const struct layup *l, uint32_t edition, uint32_t *lent,
+                   size_t places, uint32_t result, uint32_t which, uint32_t length) {
+    size_t changed = result == CEGRIDOM_ACCEPTED || result == CEGRIDOM_NO_SPLIT
+                         ? CEGRIDOM_WORK_PLACES(longer(k, l))
+                         : 0;
+    fill(work, WORK);
+    reset();
+    CHECK(cegridom_which_first(k->word, k->n, l->word, l->n, edition, lent, places, &a, &index_) ==
+          result);
+    CHECK(a == which && index_ == 0);
+    CHECK(cleared(changed));
+    fill(work, WORK);
+    reset();
+    CHECK(cegridom_first_block(k->word, k->n, l->word, l->n, edition, lent, places, &a, &b) ==
+          CEGRIDOM_ACCEPTED);
+    CHECK(a == which && b == length);
+    CHECK(cleared(changed));
+}
+
+/* A refusal that changes nothing, with no table, with just the places that are needed, and with
+   more. */
+static void pair_refused(const struct layup *k, const struct layup *l, uint32_t edition,
+                         uint32_t result) {
+    size_t needed = CEGRIDOM_WORK_PLACES(longer(k, l));
+    paired(k, l, edition, NULL, 0, result, 0, 0);
+    paired(k, l, edition, scratch, 0, result, 0, 0);
+    paired(k, l, edition, scratch, needed, result, 0, 0);
+    paired(k, l, edition, scratch, SCRATCH, result, 0, 0);
+}
+
+/* Two words in tables with just the places that they need, with more, for all but the longest since
+   each call takes its time, and with fewer. What the shorter needs is too few for the longer. */
+static void chosen(const struct layup *k, const struct layup *l, uint32_t edition) {
+    size_t needed = CEGRIDOM_WORK_PLACES(longer(k, l));
+    size_t fewer = CEGRIDOM_WORK_PLACES(k->n + l->n - longer(k, l));
+    uint32_t result = CEGRIDOM_ACCEPTED, which = 1, length = k->end;
+    if (k->size == CEGRIDOM_NONE && l->size == CEGRIDOM_NONE) {
+        result = CEGRIDOM_NO_SPLIT;
+        which = length = 0;
+    } else if (k->size == CEGRIDOM_NONE || (l->size != CEGRIDOM_NONE && l->size < k->size)) {
+        which = 2;
+        length = l->end;
+    }
+    paired(k, l, edition, scratch, needed, result, which, length);
+    if (longer(k, l) < CEGRIDOM_LIMIT) {
+        paired(k, l, edition, scratch, needed + 1, result, which, length);
+        paired(k, l, edition, scratch, SCRATCH, result, which, length);
+    }
+    paired(k, l, edition, scratch, needed - 1, CEGRIDOM_SHORT_TABLE, 0, 0);
+    paired(k, l, edition, NULL, 0, CEGRIDOM_SHORT_TABLE, 0, 0);
+    if (fewer < needed) {
+        paired(k, l, edition, scratch, fewer, CEGRIDOM_SHORT_TABLE, 0, 0);
+    }
+}
+
+static struct layup layup_of(const struct best_case *k) {
+    size_t n = strlen(k->word);
+    const struct layup known = {n > 0 ? (const uint8_t *)k->word : NULL, n, k->fewest,
+                                k->fewest_ends[0]};
+    return known;
+}
+
+/* Both calls on two words of letters, and what they are to give. */
+static void wound(const char *first, const char *second, uint32_t edition, uint32_t result,
+                  uint32_t which, uint32_t length) {
+    const struct layup k = {(const uint8_t *)first, strlen(first), 0, 0};
+    const struct layup l = {(const uint8_t *)second, strlen(second), 0, 0};
+    paired(&k, &l, edition, scratch, SCRATCH, result, which, length);
+}
+
+static void test_two_words(void) {
+    wound("aabaabaa", "abaabaababaabaabababa", 1, CEGRIDOM_ACCEPTED, 1, 8);
+    wound("abaabaababaabaabababa", "aabaabaa", 1, CEGRIDOM_ACCEPTED, 2, 8);
+    /* ties */
+    wound("abaabaababaabaabababa", "aabb", 1, CEGRIDOM_ACCEPTED, 1, 16);
+    wound("aabb", "abaabaababaabaabababa", 1, CEGRIDOM_ACCEPTED, 1, 2);
+    wound("aabaabaa", "aabaabaa", 1, CEGRIDOM_ACCEPTED, 1, 8);
+    /* only one can be split, or neither */
+    wound("ab", "aabb", 1, CEGRIDOM_ACCEPTED, 2, 2);
+    wound("aabb", "ab", 1, CEGRIDOM_ACCEPTED, 1, 2);
+    wound("ab", "baa", 1, CEGRIDOM_NO_SPLIT, 0, 0);
+    /* the empty word has no blocks */
+    wound("", "aabaabaa", 1, CEGRIDOM_ACCEPTED, 1, 0);
+    wound("aabaabaa", "", 1, CEGRIDOM_ACCEPTED, 2, 0);
+    wound("ab", "", 1, CEGRIDOM_ACCEPTED, 2, 0);
+    wound("", "", 1, CEGRIDOM_ACCEPTED, 1, 0);
+    /* the edition decides */
+    wound("aabaabaa", "aaabbb", 1, CEGRIDOM_ACCEPTED, 1, 8);
+    wound("aabaabaa", "aaabbb", 2, CEGRIDOM_ACCEPTED, 2, 3);
+    wound("aabaabaa", "aabb", 2, CEGRIDOM_NO_SPLIT, 0, 0);
+    wound("aaaabababab", "aaaabbb", 2, CEGRIDOM_ACCEPTED, 1, 3);
+    wound("aaaabbb", "aaaabababab", 2, CEGRIDOM_ACCEPTED, 1, 4);
+    /* every two of the words that best split is tried on; 12 comes before 9 and 2 */
+    for (size_t i = 0; i < sizeof best_cases / sizeof *best_cases; i++) {
+        for (size_t j = 0; j < sizeof best_cases / sizeof *best_cases; j++) {
+            const struct layup k = layup_of(&best_cases[i]), l = layup_of(&best_cases[j]);
+            if (best_cases[i].edition == best_cases[j].edition) {
+                chosen(&k, &l, best_cases[i].edition);
+                pair_refused(&k, &l, no_editions[(i + j) % NO_EDITIONS], CEGRIDOM_BAD_EDITION);
+            }
+        }
+    }
+}
+
+/* Words of many blocks, of symbols above 127, that overlap, and of the limit's length. */
+static void test_long_pairs(void) {
+    static uint8_t twice[512], thrice[768], square[CEGRIDOM_LIMIT];
+    for (size_t i = 0; i < sizeof twice; i++) {
+        twice[i] = (uint8_t)(i / 2);
+    }
+    for (size_t i = 0; i < sizeof thrice; i++) {
+        thrice[i] = (uint8_t)(i / 3);
+    }
+    for (size_t i = 0; i < sizeof square; i++) {
+        square[i] = i % 2048 == 2047 ? 254 : 255;
+    }
+    const struct layup first[] = {
+        {NULL, 0, 0, 0},
+        {twice, 512, 256, 2},
+        {twice + 2, 510, 255, 2},
+        {twice + 510, 2, 1, 2},
+        {twice + 511, 1, CEGRIDOM_NONE, 0},
+        {thrice, 768, 256, 3},
+        {thrice + 1, 767, 256, 2},
+        {longest, CEGRIDOM_LIMIT, 1, CEGRIDOM_LIMIT},
+        {square, CEGRIDOM_LIMIT, 1, CEGRIDOM_LIMIT},
+        {square + 2048, 2048, CEGRIDOM_NONE, 0},
+    };
+    const size_t firsts = sizeof first / sizeof *first;
+    for (size_t i = 0; i < firsts; i++) {
+        for (size_t j = 0; j < firsts; j++) {
+            chosen(&first[i], &first[j], CEGRIDOM_EDITION_1);
+        }
+    }
+    const struct layup second[] = {
+        {NULL, 0, 0, 0},
+        {twice, 512, CEGRIDOM_NONE, 0},
+        {thrice, 768, 256, 3},
+        {thrice + 3, 765, 255, 3},
+        {thrice + 1, 767, CEGRIDOM_NONE, 0},
+        {longest, CEGRIDOM_LIMIT, 1, CEGRIDOM_LIMIT},
+        {square, CEGRIDOM_LIMIT, CEGRIDOM_NONE, 0},
+    };
+    const size_t seconds = sizeof second / sizeof *second;
+    for (size_t i = 0; i < seconds; i++) {
+        for (size_t j = 0; j < seconds; j++) {
+            chosen(&second[i], &second[j], CEGRIDOM_EDITION_2);
+        }
+    }
+    /* 1, for either word, comes before 12, 9 and 2 */
+    const struct layup over = {longest, CEGRIDOM_LIMIT + 1, CEGRIDOM_NONE, 0};
+    for (uint32_t edition = 0; edition <= 3; edition++) {
+        for (size_t i = 0; i < firsts; i++) {
+            pair_refused(&over, &first[i], edition, CEGRIDOM_TOO_LONG);
+            pair_refused(&first[i], &over, edition, CEGRIDOM_TOO_LONG);
+        }
+        pair_refused(&over, &over, edition, CEGRIDOM_TOO_LONG);
     }
 }
 
@@ -931,6 +1120,8 @@ int main(void) {
     test_runs();
     test_nodes();
     test_best_split();
+    test_two_words();
+    test_long_pairs();
     test_judge_split();
     test_path_of_split();
     test_judge_path();

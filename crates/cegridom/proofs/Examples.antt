@@ -4,10 +4,12 @@ use mathlib.Core.List.{[], _∷_}
 use Rattle.periods.specs.Period.{smallestPeriod, repetition?}
 use Rattle.periods.specs.Edition.{badEdition?, turnsOf}
 use Rattle.periods.specs.Part.{partOutcome, description}
+use Rattle.factors.specs.Factorization.{cell, bestEnds}
 use Rattle.factors.specs.Verdict.{verdict}
 use Rattle.repetitions.specs.Judge.{splitOutcome}
+use Rattle.comparison.specs.Calls.{compared, whichOutcome}
 use Rattle.cegridom.specs.Export.{resultOf, indexOf, valueOf, version}
-use Rattle.periods.proofs.Words.{word-aabaabaa, word-ababa}
+use Rattle.periods.proofs.Words.{word-aabaabaa, word-ab, word-ababa}
 
 -- "ababa * | 5 (unit 2, turns 2, rest 1)": accepted, with four values
 pub part-result : resultOf (partOutcome word-ababa 1 1 5 5) ∷ indexOf (partOutcome word-ababa 1 1 5 5) ∷ [] ≡ 0 ∷ 0 ∷ []
@@ -33,6 +35,15 @@ pub part-a-place-short : resultOf (partOutcome word-ababa 1 1 5 4) ∷ indexOf (
 unfolding partOutcome badEdition?
 part-a-place-short = refl
 
--- 0.5
-pub version-is-0-5 : version ≡ 5
-version-is-0-5 = refl
+-- "one call answers 1 or 2": accepted, with the number of the word; 2 without one
+pub which-result : resultOf (whichOutcome word-ab word-ababa 1 24) ∷ valueOf 0 (whichOutcome word-ab word-ababa 1 24) ∷ indexOf (whichOutcome word-ab word-ababa 1 24) ∷ [] ≡ 0 ∷ 2 ∷ 0 ∷ []
+unfolding compared cell bestEnds repetition? smallestPeriod badEdition? turnsOf
+which-result = refl
+
+pub which-neither : resultOf (whichOutcome word-ab word-ab 1 12) ∷ valueOf 0 (whichOutcome word-ab word-ab 1 12) ∷ indexOf (whichOutcome word-ab word-ab 1 12) ∷ [] ≡ 2 ∷ 0 ∷ 0 ∷ []
+unfolding compared cell bestEnds repetition? smallestPeriod badEdition? turnsOf
+which-neither = refl
+
+-- 0.6
+pub version-is-0-6 : version ≡ 6
+version-is-0-6 = refl

@@ -12,6 +12,7 @@ use Rattle.factors.specs.Factorization.{Choice}
 use Rattle.factors.specs.Verdict.{VerdictMeaning}
 use Rattle.repetitions.specs.BestSplit.{Answered, BestMeaning}
 use Rattle.repetitions.specs.Judge.{SplitMeaning}
+use Rattle.comparison.specs.Calls.{Compared, WhichMeaning}
 use Rattle.paths.specs.Calls.{PathMeaning, PathJudgedMeaning}
 use Rattle.pages.specs.Page.{PageMeaning}
 use Rattle.plans.specs.Calls.{WriteMeaning, ReadMeaning}
@@ -51,6 +52,17 @@ best-values w edition choice e t o x y (BestMeaning.bad-edition a i p k l) = kno
 best-values w edition choice e t o x y (BestMeaning.bad-choice a i b p k l) = known 1 o (refused 8 0) p (lit≤ tt)
 best-values w edition choice e t o x y (BestMeaning.short-table a i b d p k l) = known 1 o (refused 9 0) p (lit≤ tt)
 best-values w edition choice e t o x y (BestMeaning.settled a i b d s) = answered-values _ _ w e _ o x (s .answered)
+
+compared-values : (k : ℕ) (a b : List ℕ) (o : Outcome) → Compared k a b o → HasValues 1 o
+compared-values k a b o (Compared.neither m n e) = known 1 o (refused 2 0) e (lit≤ tt)
+compared-values k a b o (Compared.first-wins l e) = known 1 o _ e refl
+compared-values k a b o (Compared.second-wins l e) = known 1 o _ e refl
+
+pub which-values : (a b : List ℕ) (edition : ℕ) (t : List ℕ) (o : Outcome) (y : List ℕ) → WhichMeaning a b edition t o y → HasValues 1 o
+which-values a b edition t o y (WhichMeaning.too-long l e k) = known 1 o (refused 1 0) e (lit≤ tt)
+which-values a b edition t o y (WhichMeaning.bad-edition l m i e k) = known 1 o (refused 12 0) e (lit≤ tt)
+which-values a b edition t o y (WhichMeaning.short-table l m i s e k) = known 1 o (refused 9 0) e (lit≤ tt)
+which-values a b edition t o y (WhichMeaning.settled r c k) = compared-values _ a b o c
 
 verdict-values : (B : ℕ → ℕ → ℕ → Type 0) (n : ℕ) (ends : List ℕ) (o : Outcome) → VerdictMeaning B n ends o → HasValues 1 o
 verdict-values B n ends o (VerdictMeaning.bad-end k a b f r e) = known 1 o (refused 3 k) e (lit≤ tt)

@@ -12,16 +12,18 @@ ghost use Rattle.runs.specs.Calls.{runsOutcome, runsTable, RunsMeaning};
 ghost use Rattle.nodes.specs.Calls.{nodesOutcome, nodesTable, NodesMeaning};
 ghost use Rattle.repetitions.specs.BestSplit.{bestOutcome, bestEndsTable, bestWork};
 ghost use Rattle.repetitions.specs.Judge.{splitOutcome, SplitMeaning};
+ghost use Rattle.comparison.specs.Calls.{whichOutcome, whichWork, wordIn, lengthIn, firstWhich, firstLength, FirstMeaning};
 ghost use Rattle.paths.specs.Calls.{pathOutcome, pathTable, pathJudgedOutcome, PathJudgedMeaning};
 ghost use Rattle.pages.specs.Page.{pageOutcome, pageTable};
 ghost use Rattle.plans.specs.Calls.{planView, writeOutcome, writeTable, WriteMeaning, readOutcome, readTable, ReadMeaning};
-ghost use Rattle.cegridom.specs.Export.{resultOf, indexOf, valueOf, PartHanded, BestHanded, PathHanded, PageHanded, version};
+ghost use Rattle.cegridom.specs.Export.{resultOf, indexOf, valueOf, PartHanded, BestHanded, WhichHanded, PathHanded, PageHanded, version};
 use answers::Counted;
+use comparison::Chosen;
 use periods::PartAnswer;
 use plans::PlanAnswer;
 
 // The version of this interface, 1,000 × major + minor.
-pub const VERSION: u32 = 5;
+pub const VERSION: u32 = 6;
 
 // Takes an answer that gives one number apart.
 fn hand_over(answer: Counted, count: &mut u32, index: &mut u32) -> u32
@@ -101,6 +103,32 @@ fn hand_over_plan(answer: PlanAnswer, n: &mut u32, count: &mut u32, index: &mut 
             *count = 0;
             *index = c.1;
             c.0
+        }
+    }
+}
+
+// Takes what is chosen of two words apart: the word's number and the length of its first block, 0
+// and 0 where none is chosen.
+fn hand_over_choice(answer: Chosen, which: &mut u32, symbols: &mut u32) -> u32
+    ensures { λ r. ⌜ r ≡ 0 ⌝ }
+    ensures { λ _. ⌜ now (which .exit) ≡ wordIn answer ⌝ }
+    ensures { λ _. ⌜ now (symbols .exit) ≡ lengthIn answer ⌝ }
+{
+    match answer {
+        Chosen::First(n) => {
+            *which = comparison::FIRST;
+            *symbols = n;
+            0
+        }
+        Chosen::Second(n) => {
+            *which = comparison::SECOND;
+            *symbols = n;
+            0
+        }
+        Chosen::Refused(_) => {
+            *which = 0;
+            *symbols = 0;
+            0
         }
     }
 }
@@ -194,6 +222,48 @@ pub extern "C" fn cegridom_best_split(
 {
     let answer = repetitions::best_split(w, edition, choice, ends, work);
     hand_over(answer, size, index)
+}
+
+// Which first: 1 or 2 for the word that has fewer blocks in its fewest split; the first wins a tie.
+// Refusals: 1, 12, 9, 2.
+#[no_mangle]
+pub extern "C" fn cegridom_which_first(
+    a: &[u8],
+    b: &[u8],
+    edition: u32,
+    work: &mut [u32],
+    which: &mut u32,
+    index: &mut u32,
+) -> u32
+    ensures result { λ r. ⌜ r ≡ resultOf (whichOutcome (now (a .entry)) (now (b .entry)) edition (length (now (work .entry)))) ⌝ }
+    ensures which { λ _. ⌜ now (which .exit) ≡ valueOf 0 (whichOutcome (now (a .entry)) (now (b .entry)) edition (length (now (work .entry)))) ⌝ }
+    ensures index { λ _. ⌜ now (index .exit) ≡ indexOf (whichOutcome (now (a .entry)) (now (b .entry)) edition (length (now (work .entry)))) ⌝ }
+    ensures worked { λ _. ⌜ now (work .exit) ≡ whichWork (now (a .entry)) (now (b .entry)) edition (now (work .entry)) ⌝ }
+    ensures meaning { λ _. ⌜ WhichHanded (now (a .entry)) (now (b .entry)) edition (now (work .entry)) (now (work .exit)) ⌝ }
+{
+    let answer = comparison::which_first(a, b, edition, work);
+    hand_over(answer, which, index)
+}
+
+// First block: a C function cannot return a part that lives as long as the words, so this gives the
+// number of the word, 0 for none, and how many of its first symbols are the block. Always 0.
+#[no_mangle]
+pub extern "C" fn cegridom_first_block(
+    a: &[u8],
+    b: &[u8],
+    edition: u32,
+    work: &mut [u32],
+    which: &mut u32,
+    symbols: &mut u32,
+) -> u32
+    ensures result { λ r. ⌜ r ≡ 0 ⌝ }
+    ensures which { λ _. ⌜ now (which .exit) ≡ firstWhich (now (a .entry)) (now (b .entry)) edition (length (now (work .entry))) ⌝ }
+    ensures symbols { λ _. ⌜ now (symbols .exit) ≡ firstLength (now (a .entry)) (now (b .entry)) edition (length (now (work .entry))) ⌝ }
+    ensures worked { λ _. ⌜ now (work .exit) ≡ whichWork (now (a .entry)) (now (b .entry)) edition (now (work .entry)) ⌝ }
+    ensures meaning { λ _. ⌜ FirstMeaning (now (a .entry)) (now (b .entry)) edition (now (work .entry)) (now (which .exit)) (now (symbols .exit)) (now (work .exit)) ⌝ }
+{
+    let answer = comparison::inner::compare(a, b, edition, work);
+    hand_over_choice(answer, which, symbols)
 }
 
 // Judge a split: its number of blocks. Refusals: 1, 12; then for each end in turn 3, 4; then 5.

@@ -278,6 +278,63 @@ pub fn best_split(
     answer
 }
 
+/// The turns of the edition and the places that two words need, where neither call refuses yet.
+fn admit(a: &[u8], b: &[u8], edition: u32, work: &[u32]) -> Answer<(usize, usize)> {
+    let n = a.len().max(b.len());
+    if LIMIT < n {
+        return Err((1, 0));
+    }
+    let turns = turns_of(edition)?;
+    let places = 4 * (n + 1);
+    if work.len() < places {
+        return Err((9, 0));
+    }
+    Ok((turns, places))
+}
+
+pub fn which_first(a: &[u8], b: &[u8], edition: u32, work: &mut [u32]) -> Answer<u32> {
+    let (turns, places) = admit(a, b, edition, work)?;
+    let sizes = [a, b].map(|w| {
+        fill(w, turns, 1, work);
+        work[w.len()]
+    });
+    work[..places].fill(0);
+    if sizes == [NONE, NONE] {
+        return Err((2, 0));
+    }
+    Ok(if sizes[1] < sizes[0] { 2 } else { 1 })
+}
+
+fn first_end(prev: &[u32], n: usize) -> u32 {
+    let mut end = 0;
+    let mut j = n;
+    while 0 < j {
+        end = j;
+        j = prev[j] as usize;
+    }
+    end as u32
+}
+
+pub fn first_block(a: &[u8], b: &[u8], edition: u32, work: &mut [u32]) -> [u32; 2] {
+    let Ok((turns, places)) = admit(a, b, edition, work) else {
+        return [0, 0];
+    };
+    let found = [a, b].map(|w| {
+        let row = w.len() + 1;
+        fill(w, turns, 1, work);
+        (work[w.len()], first_end(&work[row..row + row], w.len()))
+    });
+    work[..places].fill(0);
+    let [(first, first_end), (second, second_end)] = found;
+    if second < first {
+        [2, second_end]
+    } else if first != NONE {
+        [1, first_end]
+    } else {
+        [0, 0]
+    }
+}
+
 pub fn judge_split(w: &[u8], edition: u32, ends: &[u32]) -> Answer<u32> {
     let n = w.len();
     if LIMIT < n {

@@ -423,6 +423,53 @@ pub fn best_call(
     }
 }
 
+/// Which of two words has fewer blocks in its fewest split: the outcome, and the front of the working
+/// table where the call changes it.
+pub fn which_call(
+    words: [&[u8]; 2],
+    edition: u32,
+    fewest: [&Best; 2],
+    work_places: usize,
+) -> (Outcome, Vec<u32>) {
+    let longer = words[0].len().max(words[1].len());
+    if longer > LIMIT {
+        return (refused(1), vec![]);
+    }
+    if turns(edition).is_none() {
+        return (refused(12), vec![]);
+    }
+    let needed = 4 * (longer + 1);
+    if work_places < needed {
+        return (refused(9), vec![]);
+    }
+    let sizes = fewest.map(|(_, ends)| ends.as_ref().map(Vec::len));
+    let outcome = match sizes {
+        [None, None] => refused(2),
+        [Some(_), None] => Accepted(vec![1]),
+        [None, Some(_)] => Accepted(vec![2]),
+        [Some(first), Some(second)] if second < first => Accepted(vec![2]),
+        [Some(_), Some(_)] => Accepted(vec![1]),
+    };
+    (outcome, vec![0; needed])
+}
+
+/// The same with the first block of that word: which one, and the block's length. It refuses nothing;
+/// both are 0 where the other call refuses.
+pub fn first_block_call(
+    words: [&[u8]; 2],
+    edition: u32,
+    fewest: [&Best; 2],
+    work_places: usize,
+) -> (Outcome, Vec<u32>) {
+    let (outcome, work) = which_call(words, edition, fewest, work_places);
+    let Accepted(which) = outcome else {
+        return (Accepted(vec![0, 0]), work);
+    };
+    let ends = fewest[which[0] as usize - 1].1.as_ref();
+    let block = ends.expect("it has a split").first().unwrap_or(&0);
+    (Accepted(vec![which[0], *block]), work)
+}
+
 /// The refusals 3, 4 and 5 of ends, with a test of the piece between two boundaries.
 fn verdict(n: usize, ends: &[u32], fits: impl Fn(usize, usize, usize) -> bool) -> Option<Outcome> {
     let mut before = 0;
