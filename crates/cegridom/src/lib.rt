@@ -3,7 +3,8 @@
 // references, which hold 0 where the outcome has no such number. Each export is the call that it
 // names, so it costs what that call costs. The contracts are the calls' own, stated of the outcome,
 // which the numbers handed over determine: handed-over-determines in proofs/Claims.antt, and
-// proofs/Values.antt for each call.
+// proofs/Values.antt for each call. First block alone has no outcome: its two numbers say which word
+// it is a part of, and how long.
 ghost use mathlib.Core.Path.{_≡_};
 ghost use lib.ListN.{length};
 ghost use Rattle.answers.specs.Outcome.{countedView};

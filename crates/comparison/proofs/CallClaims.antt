@@ -112,12 +112,19 @@ module _ (k : ℕ) (w : List ℕ) where
   FirstEnd e = (s : ℕ) × ((es : List ℕ) × (Fewest k w s es × (e ≡ endOf es 1)))
 
 -- it lies within the word
-pub first-end-within : (k : ℕ) (w : List ℕ) (e : ℕ) → FirstEnd k w e → e ≤ length w
+first-end-within : (k : ℕ) (w : List ℕ) (e : ℕ) → FirstEnd k w e → e ≤ length w
 first-end-within k w e F = go (F .1 .0) (F .1 .1 .0 .factorization) (F .1 .1 .1)
   where
     go : (es : List ℕ) → Factorization (Block anyPeriod k w) (length w) es → e ≡ endOf es 1 → e ≤ length w
     go [] C q = omega arith
     go (x ∷ xs) C q = omega (arith, C .0 .0)
+
+module _ (a b : List ℕ) where
+  -- the end that goes with a choice lies within the word that is chosen
+  abbrev pub Within : Chosen → Type 0
+  Within (First e) = e ≤ length a
+  Within (Second e) = e ≤ length b
+  Within (Refused r) = Unit {0}
 
 module _ (k : ℕ) (a b : List ℕ) where
   -- the answer compares the sizes of the two factorizations
@@ -139,6 +146,11 @@ module _ (k : ℕ) (a b : List ℕ) where
   Found (First e) = FirstEnd k a e
   Found (Second e) = FirstEnd k b e
   Found (Refused r) = Unit {0}
+
+  pub found-within : (c : Chosen) → Found c → Within a b c
+  found-within (First e) F = first-end-within k a e F
+  found-within (Second e) F = first-end-within k b e F
+  found-within (Refused r) F = tt
 
   pub chosen-found : Found (chosen (lastCell k a fewest) (lastCell k b fewest) (firstEnd k a) (firstEnd k b))
   chosen-found = go (lastCell k a fewest) (lastCell k b fewest) (last-known k a) (last-known k b)
@@ -217,8 +229,5 @@ module _ (a b : List ℕ) (edition : ℕ) (t : List ℕ) where
       )
 
   -- a first block lies within the word that is chosen
-  pub first-within : (c : Chosen) (e : ℕ) → c ≡ compared a b edition (length t) → c ≡ First e → e ≤ length a
-  first-within c e f g = first-end-within (turnsOf edition) a e (subst (Found (turnsOf edition) a b) (sym f ∙ g) (choice-means .found))
-
-  pub second-within : (c : Chosen) (e : ℕ) → c ≡ compared a b edition (length t) → c ≡ Second e → e ≤ length b
-  second-within c e f g = first-end-within (turnsOf edition) b e (subst (Found (turnsOf edition) a b) (sym f ∙ g) (choice-means .found))
+  pub choice-within : (c d : Chosen) → c ≡ compared a b edition (length t) → c ≡ d → Within a b d
+  choice-within c d e f = subst (Within a b) (sym e ∙ f) (found-within (turnsOf edition) a b (compared a b edition (length t)) (choice-means .found))

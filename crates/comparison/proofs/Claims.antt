@@ -27,8 +27,8 @@ use Rattle.repetitions.proofs.Blocks.{block-up}
 use Rattle.comparison.specs.declared.Chosen.{Chosen}
 use Rattle.comparison.specs.declared.Chosen.the-variants.{First, Second, Refused}
 use Rattle.comparison.specs.Measure.{firstEnd}
-use Rattle.comparison.specs.Calls.{longer, chosen, tested, compared, whichView, whichOutcome, whichWork, wordIn, lengthIn, front, firstBlock, Fewest, Comparable}
-use Rattle.comparison.proofs.CallClaims.{promised-chosen, Known, last-known, FirstEnd, Found, choice-means}
+use Rattle.comparison.specs.Calls.{longer, chosen, tested, compared, whichView, whichOutcome, whichWork, wordIn, lengthIn, front, firstLength, firstBlock, Fewest, Comparable}
+use Rattle.comparison.proofs.CallClaims.{promised-chosen, Known, last-known, FirstEnd, Within, Found, choice-means, choice-within}
 use Rattle.comparison.proofs.Determined.{fewest-reached, one-not-two}
 
 -- ---- the words swapped
@@ -182,6 +182,15 @@ module _ (a b : List ℕ) (edition : ℕ) (t : List ℕ) where
       of (Second e) (first-is-empty q z) = absurd (one-not-two _ q refl)
       of (Second e) (second-is-empty q z) = rw z (take-nil e)
       of (Refused r) M = refl
+
+  -- CLAIM: it has as many symbols as a host is told, so the word that a host is told has at least so many
+  pub first-block-length : length (firstBlock a b edition (length t)) ≡ firstLength a b edition (length t)
+  first-block-length = go (compared a b edition (length t)) (choice-within a b edition t _ _ refl refl)
+    where
+      go : (c : Chosen) → Within a b c → length (front a b (wordIn c) (lengthIn c)) ≡ lengthIn c
+      go (First e) h = length-take e a ∙ omega arith
+      go (Second e) h = length-take e b ∙ omega arith
+      go (Refused r) h = refl
 
   -- CLAIM: any other is a block of the edition
   pub first-block-repeats : (firstBlock a b edition (length t) ≡ [] → ⊥) → Repetition anyPeriod (turnsOf edition) (firstBlock a b edition (length t))

@@ -18,12 +18,12 @@ use Rattle.factors.specs.Factorization.{fewest, smallest, Cell, unreachable, re
 use Rattle.factors.specs.Verdict.{endOf}
 use Rattle.factors.proofs.Optimal.{best-unique}
 use Rattle.repetitions.specs.Block.{Block}
-use Rattle.repetitions.specs.BestSplit.{lastCell}
+use Rattle.repetitions.specs.BestSplit.{lastCell, Unsplittable}
 use Rattle.comparison.specs.declared.Chosen.{Chosen}
 use Rattle.comparison.specs.declared.Chosen.the-variants.{First, Second, Refused}
 use Rattle.comparison.specs.Measure.{firstEnd}
-use Rattle.comparison.specs.Calls.{longer, chosen, compared, whichView, whichOutcome, whichWork, wordIn, lengthIn, front, firstWhich, firstLength, firstBlock, Unsplittable, Fewest, Cleared, Compared, WhichMeaning, FirstMeaning, BlockMeaning}
-use Rattle.comparison.proofs.CallClaims.{above-longer, cleared-table, Promised, promised-long, promised-bad-edition, promised-short, promised-chosen, endsOf, Known, last-known, Found, choice-means}
+use Rattle.comparison.specs.Calls.{longer, chosen, compared, whichView, whichOutcome, whichWork, wordIn, lengthIn, front, firstWhich, firstLength, firstBlock, Fewest, Cleared, Compared, WhichMeaning, FirstMeaning, BlockMeaning}
+use Rattle.comparison.proofs.CallClaims.{above-longer, cleared-table, Promised, promised-long, promised-bad-edition, promised-short, promised-chosen, endsOf, Known, last-known, FirstEnd, Found, choice-means}
 use Rattle.comparison.specs.Calls as calls
 
 -- ---- one word
@@ -45,16 +45,21 @@ module _ (k : ℕ) (w : List ℕ) where
       go unreachable A = refl
       go (reached t q) A = absurd (n (endsOf k w) (A .factorization))
 
+  -- the end of its first block is one only
+  first-end-unique : (s : ℕ) (es : List ℕ) (e : ℕ) → Fewest k w s es → FirstEnd k w e → endOf es 1 ≡ e
+  first-end-unique s es e F G =
+      ap (λ (x : List ℕ). endOf x 1) (best-unique smallest (Block anyPeriod k w) (length w) s (G .0) es (G .1 .0) F (G .1 .1 .0) .1) ∙ sym (G .1 .1 .1)
+
 -- ---- which first
 
 module _ (k : ℕ) (a b : List ℕ) (i j : ℕ) where
   pub compared-unique : (o : Outcome) → Compared k a b o → o ≡ whichView (chosen (lastCell k a fewest) (lastCell k b fewest) i j)
   compared-unique o (calls.Compared.neither n m e) = e ∙ rw (unsplittable-unreachable k a n, unsplittable-unreachable k b m) refl
-  compared-unique o (calls.Compared.first-wins (calls.Before.only s es F n) e) = e ∙ rw (fewest-reached k a s es F .1, unsplittable-unreachable k b n) refl
-  compared-unique o (calls.Compared.first-wins (calls.Before.both s t es fs F G l) e) =
+  compared-unique o (calls.Compared.first-wins (calls.Wins.only s es F n) e) = e ∙ rw (fewest-reached k a s es F .1, unsplittable-unreachable k b n) refl
+  compared-unique o (calls.Compared.first-wins (calls.Wins.both s t es fs F G l) e) =
       e ∙ rw (fewest-reached k a s es F .1, fewest-reached k b t fs G .1, le-ltb t s l) refl
-  compared-unique o (calls.Compared.second-wins (calls.Before.only t fs G n) e) = e ∙ rw (unsplittable-unreachable k a n, fewest-reached k b t fs G .1) refl
-  compared-unique o (calls.Compared.second-wins (calls.Before.both t s fs es G F l) e) =
+  compared-unique o (calls.Compared.second-wins (calls.Wins.only t fs G n) e) = e ∙ rw (unsplittable-unreachable k a n, fewest-reached k b t fs G .1) refl
+  compared-unique o (calls.Compared.second-wins (calls.Wins.both t s fs es G F l) e) =
       e ∙ rw (fewest-reached k a s es F .1, fewest-reached k b t fs G .1, lt-ltb t s l) refl
 
 cleared-unique : (places : ℕ) (t y z : List ℕ) → Cleared places t y → Cleared places t z → y ≡ z
@@ -97,14 +102,14 @@ module _ (a b : List ℕ) (edition : ℕ) (t : List ℕ) where
 
   of-one : (c : Chosen) (s : ℕ) (es : List ℕ) → accepted (1 ∷ []) ≡ whichView c → Found (turnsOf edition) a b c → Fewest (turnsOf edition) a s es → (1 ≡ wordIn c) × (endOf es 1 ≡ lengthIn c)
   of-one (First e) s es f F G =
-      (refl, ap (λ (x : List ℕ). endOf x 1) (best-unique smallest (Block anyPeriod (turnsOf edition) a) (length a) s (F .0) es (F .1 .0) G (F .1 .1 .0) .1) ∙ sym (F .1 .1 .1))
+      (refl, first-end-unique (turnsOf edition) a s es e G F)
   of-one (Second e) s es f F G = absurd (one-not-two _ refl f)
   of-one (Refused r) s es f F G = absurd (refused-accepted _ _ _ _ refl (sym f))
 
   of-two : (c : Chosen) (s : ℕ) (es : List ℕ) → accepted (2 ∷ []) ≡ whichView c → Found (turnsOf edition) a b c → Fewest (turnsOf edition) b s es → (2 ≡ wordIn c) × (endOf es 1 ≡ lengthIn c)
   of-two (First e) s es f F G = absurd (one-not-two _ refl (sym f))
   of-two (Second e) s es f F G =
-      (refl, ap (λ (x : List ℕ). endOf x 1) (best-unique smallest (Block anyPeriod (turnsOf edition) b) (length b) s (F .0) es (F .1 .0) G (F .1 .1 .0) .1) ∙ sym (F .1 .1 .1))
+      (refl, first-end-unique (turnsOf edition) b s es e G F)
   of-two (Refused r) s es f F G = absurd (refused-accepted _ _ _ _ refl (sym f))
 
   -- CLAIM: the meaning of first block determines the word, the length and the working table

@@ -11,11 +11,11 @@ use Rattle.answers.specs.declared.Refusal.the-variants.{TooLong, NoFactorizatio
 use Rattle.answers.specs.Outcome.{Outcome, accepted, refused, refusal, limit}
 use Rattle.periods.specs.Period.{anyPeriod}
 use Rattle.periods.specs.Edition.{Edition, badEdition?, turnsOf}
-use Rattle.factors.specs.Factorization.{Factorization, fewest, smallest, Best, Cell, unreachable, reached}
+use Rattle.factors.specs.Factorization.{fewest, smallest, Best, Cell, unreachable, reached}
 use Rattle.factors.specs.Table.{rows}
 use Rattle.factors.specs.Verdict.{endOf}
 use Rattle.repetitions.specs.Block.{Block}
-use Rattle.repetitions.specs.BestSplit.{lastCell}
+use Rattle.repetitions.specs.BestSplit.{lastCell, Unsplittable}
 use Rattle.comparison.specs.declared.Chosen.{Chosen}
 use Rattle.comparison.specs.declared.Chosen.the-variants.{First, Second, Refused}
 use Rattle.comparison.specs.Measure.{firstEnd}
@@ -99,17 +99,14 @@ startIn p q word = cond (eqb word second) q p
 
 -- ---- what they mean
 
-abbrev pub Unsplittable : ℕ → List ℕ → Type 0
-Unsplittable k w = (es : List ℕ) → Factorization (Block anyPeriod k w) (length w) es → ⊥
-
 -- es are the ends of a word's fewest split, of s blocks
 abbrev pub Fewest : ℕ → List ℕ → ℕ → List ℕ → Type 0
 Fewest k w s es = Best smallest (Block anyPeriod k w) (length w) s es
 
--- word u is wound before word v: "If only one can be split it is that one", else the sizes of their fewest splits stand in a relation
-pub data Before (R : ℕ → ℕ → Type 0) (k : ℕ) (u v : List ℕ) : Type 0 where
-  only : (s : ℕ) (es : List ℕ) → Fewest k u s es → Unsplittable k v → Before R k u v
-  both : (s t : ℕ) (es fs : List ℕ) → Fewest k u s es → Fewest k v t fs → R s t → Before R k u v
+-- word u wins over word v: "If only one can be split it is that one", else the sizes of their fewest splits stand in a relation
+pub data Wins (R : ℕ → ℕ → Type 0) (k : ℕ) (u v : List ℕ) : Type 0 where
+  only : (s : ℕ) (es : List ℕ) → Fewest k u s es → Unsplittable k v → Wins R k u v
+  both : (s t : ℕ) (es fs : List ℕ) → Fewest k u s es → Fewest k v t fs → R s t → Wins R k u v
 
 -- neither 1 nor 12 nor 9 is met; t is the working table at entry
 pub record Comparable (a b : List ℕ) (edition : ℕ) (t : List ℕ) : Type 0 where
@@ -127,8 +124,8 @@ pub record Cleared (places : ℕ) (t y : List ℕ) : Type 0 where
 -- "The first lay-up wins a tie."
 pub data Compared (k : ℕ) (a b : List ℕ) (o : Outcome) : Type 0 where
   neither : Unsplittable k a → Unsplittable k b → o ≡ refused 2 0 → Compared k a b o
-  first-wins : Before _≤_ k a b → o ≡ accepted (1 ∷ []) → Compared k a b o
-  second-wins : Before _<_ k b a → o ≡ accepted (2 ∷ []) → Compared k a b o
+  first-wins : Wins _≤_ k a b → o ≡ accepted (1 ∷ []) → Compared k a b o
+  second-wins : Wins _<_ k b a → o ≡ accepted (2 ∷ []) → Compared k a b o
 
 pub data WhichMeaning (a b : List ℕ) (edition : ℕ) (t : List ℕ) (o : Outcome) (y : List ℕ) : Type 0 where
   too-long : (limit < length a) ⊎ (limit < length b) → o ≡ refused 1 0 → y ≡ t → WhichMeaning a b edition t o y

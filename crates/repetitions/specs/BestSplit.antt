@@ -64,17 +64,21 @@ bestWork w edition choice t =
 
 -- ---- demand 3
 
+-- a word has no split into blocks of k turns
+abbrev pub Unsplittable : ℕ → List ℕ → Type 0
+Unsplittable k w = (es : List ℕ) → Factorization (Block anyPeriod k w) (length w) es → ⊥
+
 -- what is reported of a prefix, taken as a word of its own: "none exactly when it has no split. Otherwise the fewest we report is the size of one of its
 -- splits, and every split of it has at least as many blocks; the most we report is the size of one too, and every split of it has at most as many."
 pub data Reported (k : ℕ) (c : Choice) (u : List ℕ) (v : ℕ) : Type 0 where
-  unsplittable : v ≡ none → ((es : List ℕ) → Factorization (Block anyPeriod k u) (length u) es → ⊥) → Reported k c u v
+  unsplittable : v ≡ none → Unsplittable k u → Reported k c u v
   best :
       (es : List ℕ) → Factorization (Block anyPeriod k u) (length u) es → size es ≡ v → v < none
       → ((fs : List ℕ) → Factorization (Block anyPeriod k u) (length u) fs → AsGood c v (size fs)) → Reported k c u v
 
 -- what is answered of the whole; e and x are the ends' table at entry and at exit, v what is reported of the whole
 pub data Answered (k : ℕ) (c : Choice) (w : List ℕ) (e : List ℕ) (v : ℕ) (o : Outcome) (x : List ℕ) : Type 0 where
-  no-split : ((es : List ℕ) → Factorization (Block anyPeriod k w) (length w) es → ⊥) → o ≡ refused 2 0 → x ≡ e → Answered k c w e v o x
+  no-split : Unsplittable k w → o ≡ refused 2 0 → x ≡ e → Answered k c w e v o x
   too-few : (es : List ℕ) → Best c (Block anyPeriod k w) (length w) v es → length e < v → o ≡ refused 7 0 → x ≡ e → Answered k c w e v o x
   written : (es : List ℕ) → Best c (Block anyPeriod k w) (length w) v es → v ≤ length e → o ≡ accepted (v ∷ []) → x ≡ es ++ drop v e → Answered k c w e v o x
 

@@ -7,15 +7,16 @@ use Rattle.answers.specs.Outcome.{Outcome, accepted, refused}
 use Rattle.periods.specs.Period.{anyPeriod}
 use Rattle.runs.specs.declared.Record.{Record}
 use Rattle.runs.specs.Run.{Lists}
-use Rattle.factors.specs.Factorization.{Factorization, Choice, smallest, largest, size, Best}
+use Rattle.factors.specs.Factorization.{Choice, smallest, largest, size, Best}
 use Rattle.repetitions.specs.Block.{Block}
+use Rattle.repetitions.specs.BestSplit.{Unsplittable}
 use Rattle.finder.specs.Find.{recordLimit}
 use Rattle.report.specs.Text.{programLimit, printedTurns, passesName, fewestName, mostName, noneText, refusedText, runLines, blockLines}
 use Rattle.writers.specs.Line.{line}
 
 -- "fewest with its size and then its blocks, and most in the same way"; "With no split it prints fewest,none and most,none."
 pub data SplitPrinted (w : List ℕ) (c : Choice) (name s : List ℕ) : Type 0 where
-  none-printed : ((es : List ℕ) → Factorization (Block anyPeriod printedTurns w) (length w) es → ⊥) → s ≡ name ++ noneText → SplitPrinted w c name s
+  none-printed : Unsplittable printedTurns w → s ≡ name ++ noneText → SplitPrinted w c name s
   best-printed : (es : List ℕ) → Best c (Block anyPeriod printedTurns w) (length w) (size es) es → s ≡ line name (size es ∷ []) ++ blockLines w 0 0 es → SplitPrinted w c name s
 
 -- "The lines are passes with n, each run in order, fewest ..., and most in the same way."

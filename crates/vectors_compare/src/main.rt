@@ -1,6 +1,7 @@
 // Shows which of two words to wind first, and its first block, on document 01's sequences in pairs
-// in both editions, and each refusal. What is lent holds 7 in every place before the call; a list
-// shows the lent places after it. Each line is compared with the file stdout.
+// in both editions, and each refusal. A table that is lent holds 7 in every place before the first
+// call with it; a list shows the lent places after the call. Each line is compared with the file
+// stdout.
 use decimals::COMMA;
 use show::text;
 

@@ -5,7 +5,7 @@ use Prim.Native.Nat.{ℕ, _+_}
 use native.Mathlib.Nat.{zero-add, sub-zero}
 use lib.ListN.{take}
 use Rattle.comparison.specs.declared.Chosen.the-variants.{First, Second, Refused}
-use Rattle.comparison.proofs.CallClaims.{first-within, second-within, block-answered}
+use Rattle.comparison.proofs.CallClaims.{choice-within, block-answered}
 use borrow.Author.Needs.{needs}
 use Rattle.comparison.proofs.first_block.Statement.{statement}
 use Rattle.comparison.proofs.first_block.Tie as tie
@@ -32,7 +32,7 @@ part-result-start c = search needs
 part-result-end : tie.Need-part-result-end
 part-result-end c =
     let g = c .before .before .before .before .before .before .before .before .before .before .args in
-    first-within (g .a .now) (g .b .now) (g .edition) (g .work .now) _ _ (c .before .before .before .before .before .compare .ensures .0) (c .before .length .given .1)
+    choice-within (g .a .now) (g .b .now) (g .edition) (g .work .now) _ _ (c .before .before .before .before .before .compare .ensures .0) (c .before .length .given .1)
 
 same-length : tie.Need-same-length
 same-length c = search needs
@@ -59,7 +59,7 @@ part-result-start-2 c = search needs
 part-result-end-2 : tie.Need-part-result-end-2
 part-result-end-2 c =
     let g = c .before .before .before .before .before .before .before .before .before .before .args in
-    second-within (g .a .now) (g .b .now) (g .edition) (g .work .now) _ _ (c .before .before .before .before .before .compare .ensures .0) (c .before .length2 .given .1)
+    choice-within (g .a .now) (g .b .now) (g .edition) (g .work .now) _ _ (c .before .before .before .before .before .compare .ensures .0) (c .before .length2 .given .1)
 
 same-length-2 : tie.Need-same-length-2
 same-length-2 c = search needs
