@@ -1,18 +1,20 @@
--- Writing a number in decimal and reading it are inverse to each other, for every width and number; and a plain number has as many digits as it needs and no
--- leading zeros. By induction on the width, on the bytes, and on how many digits there may be. Assumes nothing.
+-- Writing a number in decimal and reading it are inverse to each other, for every width and number; its first digits read as its quotient by a power of ten;
+-- and a plain number has as many digits as it needs and no leading zeros. By induction on the width, on the bytes, and on how many digits there may be. Assumes
+-- nothing.
 use mathlib.Core.Path.{_≡_, refl, sym, ap, ap₂, _∙_, subst}
 use mathlib.Core.Bool.{Bool, true, false, cond}
 use mathlib.Core.List.{List, [], _∷_, _++_, append-nil, nil≢cons, cons≢nil, head-eq-of-cons-eq}
 use Prim.Native.Nat.{ℕ, zero, suc, _+_, _-_, _*_, _/_, _%_, _^_, _≤_, _<_}
 use native.Mathlib.Omega.{arith}
 use native.Mathlib.Decide.{decLt}
-use native.Mathlib.Nat.{pow-suc, pow-succ', mul-le-mul-right, mul-assoc, lt-of-lt-of-le, zero-add, add-zero}
+use native.Mathlib.Nat.{pow-suc, pow-succ', mul-le-mul-right, mul-assoc, lt-of-lt-of-le, zero-add, add-zero, sub-self, sub-zero, div-one, div-eq-of-lt, div-div-eq-div-mul}
+use native.Mathlib.Numerals.{add-one}
 use borrow.Author.Tests.{lt-ltb, le-ltb, le-leb}
 use lib.Dec.{T, leb, ltb, leb→le}
-use lib.ListN.{length, length-append}
-use lib.Seq.{append-snoc}
-use Rattle.laws.proofs.Tests.{and-intro, and-left, and-right}
-use Rattle.decimals.specs.Decimal.{zeroByte, digitsIn, decimalByte, digits, digitCount, plain, digit?, digits?, spelled, value}
+use lib.ListN.{length, take, length-append}
+use lib.Seq.{append-snoc, take-all, take-append-le}
+use Rattle.laws.proofs.Tests.{and-intro, and-left, and-right, T-true}
+use Rattle.decimals.specs.Decimal.{zeroByte, digitsIn, decimalByte, digits, made, digitCount, plain, digit?, digits?, spelled, value}
 use Rattle.decimals.specs.Read.{numberIn}
 
 -- ---- tests
@@ -41,13 +43,14 @@ digits-append : (xs ys : List ℕ) → T (digits? xs) → T (digits? ys) → T (
 digits-append [] ys a b = b
 digits-append (x ∷ xs) ys a b = and-intro (digit? x) (digits? (xs ++ ys)) (and-left (digit? x) (digits? xs) a) (digits-append xs ys (and-right (digit? x) (digits? xs) a) b)
 
+one-digit : (d : ℕ) → d ≤ 9 → T (digits? ((zeroByte + d) ∷ []))
+one-digit d h = and-intro (digit? (zeroByte + d)) true (subst T (sym (is-digit (zeroByte + d) (omega arith) (omega arith))) tt) tt
+
 -- CLAIM: what is written is digits
 pub digits-are-digits : (k x : ℕ) → T (digits? (digits k x))
 unfolding digitsIn
 digits-are-digits zero x = tt
-digits-are-digits (suc k) x =
-    digits-append (digits k (x / 10)) ((zeroByte + x % 10) ∷ []) (digits-are-digits k (x / 10))
-    (and-intro (digit? (zeroByte + x % 10)) true (subst T (sym (is-digit (zeroByte + x % 10) (omega arith) (omega arith))) tt) tt)
+digits-are-digits (suc k) x = digits-append (digits k (x / 10)) ((zeroByte + x % 10) ∷ []) (digits-are-digits k (x / 10)) (one-digit (x % 10) (omega arith))
 
 spelled-snoc : (a : ℕ) (xs : List ℕ) (b : ℕ) → spelled a (xs ++ b ∷ []) ≡ spelled a xs * 10 + (b - zeroByte)
 spelled-snoc a [] b = refl
@@ -114,6 +117,64 @@ number-none bs e = go (digits? bs) refl
     go : (t : Bool) → digits? bs ≡ t → digits? bs ≡ false
     go true d = absurd (nil≢cons (e ∙ ap (λ (t : Bool). cond t (value bs ∷ []) []) d))
     go false d = d
+
+-- digits that are written are read
+pub number-digits : (k x : ℕ) → x < 10 ^ k → numberIn (digits k x) ≡ x ∷ []
+unfolding numberIn
+number-digits k x h = rw (T-true (digits? (digits k x)) (digits-are-digits k x), digits-value k x h) refl
+
+-- and one more digit makes ten times the number and that digit
+pub number-more : (bs : List ℕ) (x d : ℕ) → numberIn bs ≡ x ∷ [] → d ≤ 9 → numberIn (bs ++ (zeroByte + d) ∷ []) ≡ (x * 10 + d) ∷ []
+unfolding numberIn
+number-more bs x d e h =
+    let s = number-some bs x (sym e) in
+    let b : T (digits? (bs ++ (zeroByte + d) ∷ [])) = digits-append bs ((zeroByte + d) ∷ []) (subst T (sym (s .0)) tt) (one-digit d h) in
+    rw (T-true (digits? (bs ++ (zeroByte + d) ∷ [])) b) (ap (λ (y : ℕ). y ∷ []) (spelled-snoc 0 bs (zeroByte + d) ∙ omega (arith, s .1)))
+
+-- ---- digits from the highest down
+
+pub made-all : (width x : ℕ) → made width width x ≡ x
+unfolding made
+made-all width x = ap (λ (k : ℕ). x / 10 ^ k) (sub-self width) ∙ div-one x
+
+pub made-none : (width x : ℕ) → x < 10 ^ width → made width 0 x ≡ 0
+unfolding made
+made-none width x h = ap (λ (k : ℕ). x / 10 ^ k) (sub-zero width) ∙ div-eq-of-lt h
+
+-- the number made before is the one made now without its last digit
+pub made-before : (width i x : ℕ) → i < width → made width i x ≡ made width (i + 1) x / 10
+unfolding made
+made-before width i x h =
+    let e : width - i ≡ suc (width - (i + 1)) = omega arith in
+    ap (λ (k : ℕ). x / 10 ^ k) e
+    ∙ ap (λ (p : ℕ). x / p) (pow-suc 10 (width - (i + 1)))
+    ∙ sym (div-div-eq-div-mul x (10 ^ (width - (i + 1))) 10)
+
+made-bound : (width i x : ℕ) → x < 10 ^ width → i ≤ width → made width i x < 10 ^ i
+made-bound width zero x h l = omega (arith, made-none width x h)
+made-bound width (suc i) x h l =
+    let e : made width i x ≡ made width (suc i) x / 10 = made-before width i x l ∙ ap (λ (j : ℕ). made width j x / 10) (add-one i) in
+    omega (arith, made-bound width i x h (omega arith), e, pow-suc 10 i)
+
+-- the first i digits, when k follow
+first-digits : (i k x : ℕ) → take i (digits (i + k) x) ≡ digits i (x / 10 ^ k)
+unfolding digitsIn
+first-digits i zero x = ap (λ (j : ℕ). take i (digits j x)) (add-zero i) ∙ take-all i (digits i x) (omega (arith, digits-length i x)) ∙ ap (digits i) (sym (div-one x))
+first-digits i (suc k) x =
+    let more : i + suc k ≡ suc (i + k) = omega arith in
+    ap (λ (j : ℕ). take i (digits j x)) more
+    ∙ take-append-le i (digits (i + k) (x / 10)) ((zeroByte + x % 10) ∷ []) (omega (arith, digits-length (i + k) (x / 10)))
+    ∙ first-digits i k (x / 10)
+    ∙ ap (digits i) (div-div-eq-div-mul x 10 (10 ^ k) ∙ ap (λ (p : ℕ). x / p) (sym (pow-succ' 10 k)))
+
+-- CLAIM: the first i digits of a number, read as a number, are the number made so far
+pub made-digits : (width i x : ℕ) → i ≤ width → x < 10 ^ width → numberIn (take i (digits width x)) ≡ made width i x ∷ []
+unfolding made
+made-digits width i x l h =
+    let e : i + (width - i) ≡ width = omega arith in
+    ap (λ (j : ℕ). numberIn (take i (digits j x))) (sym e)
+    ∙ ap numberIn (first-digits i (width - i) x)
+    ∙ number-digits i (made width i x) (made-bound width i x h l)
 
 -- ---- the number of digits
 

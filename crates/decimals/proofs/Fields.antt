@@ -1,16 +1,16 @@
 -- How many digits a number has, numbers that are at most so large, and fields one after another: how long they are, and the first of those from a place on. By the definitions and by induction on
 -- the lists. Assumes nothing.
-use mathlib.Core.Path.{_≡_, refl}
+use mathlib.Core.Path.{_≡_, refl, sym, subst}
 use mathlib.Core.Bool.{Bool, true, false, cond}
 use mathlib.Core.List.{List, [], _∷_, _++_}
-use Prim.Native.Nat.{ℕ, zero, suc, _+_, _*_, _/_, _≤_, _<_}
+use Prim.Native.Nat.{ℕ, zero, suc, _+_, _*_, _/_, _^_, _≤_, _<_}
 use native.Mathlib.Omega.{arith}
 use native.Mathlib.Numerals.{add-one}
 use lib.Dec.{ltb}
 use lib.ListN.{length, getD, drop, length-append, drop-of-length-le}
 use lib.Seq.{drop-cons}
-use Rattle.decimals.specs.Decimal.{digitCount, plain, fieldsAfter, AtMost}
-use Rattle.decimals.proofs.Claims.{digits-length}
+use Rattle.decimals.specs.Decimal.{mostDigits, digitCount, plain, fieldsAfter, AtMost}
+use Rattle.decimals.proofs.Claims.{digits-length, plain-fits}
 
 pub count-most : (most x : ℕ) → digitCount most x ≤ suc most
 unfolding digitCount
@@ -20,6 +20,10 @@ count-most (suc most) x = go (ltb x 10) (count-most most (x / 10))
     go : (b : Bool) → digitCount most (x / 10) ≤ suc most → cond b 1 (suc (digitCount most (x / 10))) ≤ suc (suc most)
     go true h = omega arith
     go false h = omega arith
+
+-- as many digits as were counted can be written, and the number has no more
+pub counted-fits : (x k : ℕ) → x < 2 ^ 32 → k ≡ digitCount 9 x → (k ≤ mostDigits) × (x < 10 ^ k)
+counted-fits x k h e = (omega (arith, count-most 9 x), subst (λ (j : ℕ). x < 10 ^ j) (sym e) (plain-fits x (omega arith)))
 
 pub at-most-at : (m : ℕ) (xs : List ℕ) (k : ℕ) → AtMost m xs → k < length xs → getD xs k 0 ≤ m
 at-most-at m [] k S h = absurd (omega arith)

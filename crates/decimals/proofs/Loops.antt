@@ -1,4 +1,5 @@
--- What the loops of `inner` keep: the digits still to be counted, to be written and to be read give what is left of the answer. Assumes nothing.
+-- What the loops of `inner` keep: the digits still to be counted and to be read give what is left of the answer; the digits made so far read as the number
+-- divided by a power of ten. Assumes nothing.
 use mathlib.Core.Path.{_≡_, refl, sym, ap, ap₂, _∙_}
 use mathlib.Core.Bool.{Bool, true, false, cond, _&&_}
 use mathlib.Core.List.{List, [], _∷_, _++_}
@@ -6,14 +7,14 @@ use Prim.Native.Nat.{ℕ, zero, suc, _+_, _-_, _*_, _/_, _%_, _^_, _≤_, _<_}
 use native.Mathlib.Omega.{arith}
 use native.Mathlib.Decide.{decLt}
 use native.Mathlib.Numerals.{add-one}
-use native.Mathlib.Nat.{pow-suc, pow-le-pow-right}
+use native.Mathlib.Nat.{pow-suc, pow-succ', pow-le-pow-right, mul-assoc, one-mul}
 use borrow.Author.Tests.{lt-ltb, le-ltb, lt-leb}
 use lib.Dec.{leb, ltb}
-use lib.ListN.{length, getD, set, drop, length-drop, drop-of-length-le}
-use lib.Seq.{sets, set-comm, drop-cons, getD-take, getD-drop, length-take-le}
-use Rattle.decimals.specs.Decimal.{zeroByte, digitsIn, digitCount, digits?, spelled, field}
+use lib.ListN.{length, getD, set, take, drop, length-drop, drop-of-length-le}
+use lib.Seq.{drop-cons, drop-set-add, take-suc-set, getD-take, getD-drop, length-take-le}
+use Rattle.decimals.specs.Decimal.{zeroByte, mostDigits, digitsIn, decimalByte, digits, made, digitCount, digits?, spelled, field}
 use Rattle.decimals.specs.Read.{numberIn}
-use Rattle.decimals.proofs.Claims.{digits-in-length, is-digit, count-one, count-more}
+use Rattle.decimals.proofs.Claims.{is-digit, number-more, made-none, made-before, count-one, count-more}
 
 -- ---- counting
 
@@ -57,25 +58,61 @@ counted-done k rest h = simp (le-ltb 0 rest h)
 
 -- ---- writing
 
--- the last of a run of stores may be the first
-sets-last : (xs l : List ℕ) (at b : ℕ) → sets l at (xs ++ b ∷ []) ≡ sets (set l (at + length xs) b) at xs
-sets-last [] l at b = ap (λ (i : ℕ). set l i b) (omega arith)
-sets-last (x ∷ xs) l at b =
-    sets-last xs (set l at x) (suc at) b
-    ∙ ap (λ (t : List ℕ). sets t (suc at) xs)
-    (ap (λ (i : ℕ). set (set l at x) i b) (omega arith) ∙ set-comm l at (at + suc (length xs)) x b (λ e. omega arith))
+-- the powers of ten from p on
+abbrev pub powers : ℕ → ℕ → List ℕ
+powers zero p = []
+powers (suc n) p = p ∷ powers n (p * 10)
 
-module _ (base : ℕ) (byte : ℕ → ℕ) (l : List ℕ) (at : ℕ) where
-  -- the lowest digit is stored and the others are left
-  pub write-more : (i x : ℕ) → sets l at (digitsIn base byte (suc i) x) ≡ sets (set l (at + i) (byte (x % base))) at (digitsIn base byte i (x / base))
-  unfolding digitsIn
-  write-more i x =
-      sets-last (digitsIn base byte i (x / base)) l at (byte (x % base))
-      ∙ ap (λ (j : ℕ). sets (set l (at + j) (byte (x % base))) at (digitsIn base byte i (x / base))) (digits-in-length base byte i (x / base))
+power-at : (n p k : ℕ) → k < n → getD (powers n p) k 0 ≡ p * 10 ^ k
+power-at zero p k h = absurd (omega arith)
+power-at (suc n) p zero h = omega arith
+power-at (suc n) p (suc k) h = power-at n (p * 10) k (omega arith) ∙ mul-assoc p 10 (10 ^ k) ∙ ap (λ (q : ℕ). p * q) (sym (pow-succ' 10 k))
 
-  pub write-done : (x : ℕ) → sets l at (digitsIn base byte 0 x) ≡ l
+-- so a table of the powers from 1 on has them
+pub powers-are : (k : ℕ) → k < mostDigits → getD (powers mostDigits 1) k 0 ≡ 10 ^ k
+powers-are k h = power-at mostDigits 1 k h ∙ one-mul (10 ^ k)
+
+pub power-positive : (k : ℕ) → 1 ≤ 10 ^ k
+power-positive k = pow-le-pow-right {n = 10} (omega arith) {i = 0} {j = k} (omega arith)
+
+-- the number made with a digit is the whole number divided by the digit's power of ten
+pub made-quotient : (width i x p : ℕ) → p ≡ 10 ^ (width - 1 - i) → x / p ≡ made width (i + 1) x
+unfolding made
+made-quotient width i x p e =
+    let k : width - 1 - i ≡ width - (i + 1) = omega arith in
+    ap (λ (q : ℕ). x / q) (e ∙ ap (λ (j : ℕ). 10 ^ j) k)
+
+-- before the first digit
+pub none-made : (width x : ℕ) → x < 10 ^ width → numberIn [] ≡ made width 0 x ∷ []
+unfolding numberIn
+none-made width x h = ap (λ (y : ℕ). y ∷ []) (sym (made-none width x h))
+
+pub no-digits : (x : ℕ) → digits 0 x ≡ []
+unfolding digitsIn
+no-digits x = refl
+
+-- a field with one more byte
+field-set : (s : List ℕ) (at i b : ℕ) → at + i < length s → field (set s (at + i) b) at (i + 1) ≡ field s at i ++ (b ∷ [])
+field-set s at i b h =
+    ap₂ (λ (j : ℕ) (l : List ℕ). take j l) (add-one i) (drop-set-add at s i b)
+    ∙ take-suc-set (drop at s) i b (omega (arith, length-drop at s))
+
+module _ (width i x : ℕ) (inside : i < width) where
+  -- one digit more, as it is read
+  pub made-more : (s : List ℕ) (at : ℕ) → at + i < length s → numberIn (field s at i) ≡ made width i x ∷ []
+      → numberIn (field (set s (at + i) (decimalByte (made width (i + 1) x % 10))) at (i + 1)) ≡ made width (i + 1) x ∷ []
+  made-more s at h e =
+      let q : ℕ = made width (i + 1) x in
+      ap numberIn (field-set s at i (decimalByte (q % 10)) h)
+      ∙ number-more (field s at i) (made width i x) (q % 10) e (omega arith)
+      ∙ ap (λ (y : ℕ). y ∷ []) (omega (arith, made-before width i x inside))
+
+  -- and as it is stored
+  pub digits-more : digits (i + 1) (made width (i + 1) x) ≡ digits i (made width i x) ++ (decimalByte (made width (i + 1) x % 10) ∷ [])
   unfolding digitsIn
-  write-done x = refl
+  digits-more =
+      ap (λ (j : ℕ). digits j (made width (i + 1) x)) (add-one i)
+      ∙ ap (λ (y : ℕ). digits i y ++ (decimalByte (made width (i + 1) x % 10) ∷ [])) (sym (made-before width i x inside))
 
 -- ---- reading
 

@@ -1,7 +1,7 @@
 -- Numbers in decimal, as bytes 48 to 57 ("0" to "9"), the highest digit first.
 use mathlib.Core.Bool.{Bool, true, cond, _&&_}
 use mathlib.Core.List.{List, [], _∷_, _++_}
-use Prim.Native.Nat.{ℕ, zero, suc, _+_, _-_, _*_, _/_, _%_, _≤_}
+use Prim.Native.Nat.{ℕ, zero, suc, _+_, _-_, _*_, _/_, _%_, _^_, _≤_}
 use lib.Dec.{leb, ltb}
 use lib.ListN.{take, drop}
 
@@ -27,6 +27,15 @@ decimalByte d = zeroByte + d
 
 abbrev pub digits : ℕ → ℕ → List ℕ
 digits k x = digitsIn 10 decimalByte k x
+
+-- "those made so far, read as a number, are … the whole number divided by 1,000, 100, 10 and then 1, rounded down": the number that the first `i` of the
+-- `width` digits of a number read as
+unfoldable pub made : ℕ → ℕ → ℕ → ℕ
+made width i x = x / 10 ^ (width - i)
+
+-- the digits that the greatest number below 2 ^ 32 has
+abbrev pub mostDigits : ℕ
+mostDigits = 10
 
 -- how many digits a number has with no leading zeros, if it has at most `most` more than one
 unfoldable pub digitCount : ℕ → ℕ → ℕ

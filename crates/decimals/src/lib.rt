@@ -1,6 +1,9 @@
 // Numbers in decimal: their digits made and read, in one function each.
 pub mod inner;
 
+// The digits that the greatest number has.
+pub const MOST_DIGITS: usize = 10;
+
 // The byte of the digit 0.
 pub const ZERO: u8 = 48;
 

@@ -3,7 +3,7 @@
 -- Assumes nothing.
 use mathlib.Core.Path.{_≡_, refl, sym, ap, ap₂, _∙_}
 use mathlib.Core.List.{List, [], _∷_, _++_}
-use Prim.Native.Nat.{ℕ, zero, suc, _+_, _-_, _*_, _≤_, _<_}
+use Prim.Native.Nat.{ℕ, zero, suc, _+_, _-_, _*_, _/_, _%_, _≤_, _<_}
 use native.Mathlib.Omega.{arith}
 use native.Mathlib.Decide.{decLt}
 use native.Mathlib.Nat.{mul-suc, pow-le-pow-right}
@@ -11,10 +11,10 @@ use native.Mathlib.Numerals.{add-one}
 use lib.ListN.{length, getD, take, drop, length-append, length-replicate, drop-of-length-le}
 use lib.Seq.{sets, drop-cons, take-nil}
 use Rattle.laws.proofs.Stores.{sets-append}
-use Rattle.decimals.specs.Decimal.{digits, digitCount, plain}
+use Rattle.decimals.specs.Decimal.{digitsIn, digits, digitCount, plain}
 use Rattle.decimals.proofs.Claims.{digits-length, digits-in-length, count-one, plain-shortest}
 use Rattle.decimals.proofs.Fields.{at-most-at}
-use Rattle.page_lines.specs.Line.{widths, widthOf, sum, startOf, numberColumns, lineWidth, space, spaces, rightAligned, columns, hexByte, hexDigits, symbols, greatest, LineNumbers}
+use Rattle.page_lines.specs.Line.{widths, widthOf, sum, startOf, numberColumns, lineWidth, space, spaces, rightAligned, columns, hexByte, hexDigits, symbolDigits, symbols, greatest, LineNumbers}
 
 -- ---- the table
 
@@ -123,6 +123,11 @@ pub line-number-short : (xs : List ℕ) → LineNumbers xs → (c : ℕ) → c <
 line-number-short xs N c h = number-short c (getD xs c 0) h (at-most-at greatest xs c (N .1) (omega arith))
 
 -- ---- symbols
+
+-- a symbol's digits, the highest first
+pub symbol-digits : (x : ℕ) → x < 256 → hexDigits symbolDigits x ≡ hexByte (x / 16) ∷ hexByte (x % 16) ∷ []
+unfolding digitsIn
+symbol-digits x h = ap (λ (d : ℕ). hexByte d ∷ hexByte (x % 16) ∷ []) {x = x / 16 % 16} {y = x / 16} (omega arith)
 
 pub symbols-length : (k : ℕ) (xs : List ℕ) → length (symbols k xs) ≡ k * length xs
 unfolding symbols

@@ -67,18 +67,13 @@ fn put_number(out: &mut [u8], at: usize, width: usize, x: u32)
     decimals::inner::write(out, at + blank, digits, x);
 }
 
-// Writes the digits of a symbol, the lowest first.
+// Writes the two hexadecimal digits of a symbol.
 fn put_symbol(out: &mut [u8], at: usize, x: u8)
     requires { ⌜ at + symbolDigits ≤ length (now out) ⌝ }
     ensures { λ _. ⌜ now (out .exit) ≡ sets (now (out .entry)) at (hexDigits symbolDigits x) ⌝ }
 {
-    let mut rest = x;
-    let mut i = DIGITS;
-    while 0 < i {
-        i -= 1;
-        out[at + i] = HEX[(rest % 16) as usize];
-        rest /= 16;
-    }
+    out[at] = HEX[(x / 16) as usize];
+    out[at + 1] = HEX[(x % 16) as usize];
 }
 
 // How many symbols of a unit of this length are shown.

@@ -1,10 +1,10 @@
 -- The test of a line says exactly when bytes are one: what is read off the places of a line of n and ends is n and ends (line-is-line, line-numbers), and bytes
 -- that pass the test are the line of what is read off them (line-read). So a line has one n and one list of ends (line-unique). By cutting the bytes at the
--- places of the numbers. Assumes nothing.
+-- places of the numbers. And the digits of a number, from the thousands down, read as its quotients by 1,000, 100, 10 and 1 (four-quotients). Assumes nothing.
 use mathlib.Core.Path.{_≡_, refl, sym, ap, ap₂, _∙_, subst}
 use mathlib.Core.Bool.{Bool, true, false, _&&_}
 use mathlib.Core.List.{List, [], _∷_, _++_, append-nil, append-assoc}
-use Prim.Native.Nat.{ℕ, zero, suc, _+_, _-_, _^_, _≤_, _<_}
+use Prim.Native.Nat.{ℕ, zero, suc, _+_, _-_, _/_, _^_, _≤_, _<_}
 use native.Mathlib.Omega.{arith}
 use native.Mathlib.Nat.{mul-suc}
 use native.Mathlib.Decide.{ℕ-discrete}
@@ -13,8 +13,9 @@ use lib.Dec.{T, eqb, eqb→eq}
 use lib.ListN.{length, getD, take, drop, length-append, drop-of-length-le, take-append-drop}
 use lib.Seq.{take-suc, take-length, drop-cons, take-at, drop-at, drop-drop, getD-at, split-at, length-take-le, append-snoc}
 use Rattle.laws.proofs.Tests.{T-true, and-intro, and-left, and-right}
-use Rattle.decimals.specs.Decimal.{comma, lineEnd, digits, digits?, value, field}
-use Rattle.decimals.proofs.Claims.{digits-length, digits-are-digits, digits-value, value-digits, value-bound}
+use Rattle.decimals.specs.Decimal.{comma, lineEnd, digits, made, digits?, value, field}
+use Rattle.decimals.specs.Read.{numberIn}
+use Rattle.decimals.proofs.Claims.{digits-length, digits-are-digits, digits-value, value-digits, value-bound, made-digits}
 use Rattle.decimals.proofs.Fields.{at-most-at}
 use Rattle.decimals.proofs.Loops.{field-length}
 use Rattle.plan_lines.specs.Line.{planBytes, width, greatest, fields, line, Small, IsLine, placeOfLength, placeOfCount, step, bytesFor, placeOfEnd, numberAt, field?, ends?, startsWith, line?, endsIn}
@@ -41,6 +42,17 @@ pub length-line : (n : ℕ) (ends : List ℕ) → length (line n ends) ≡ bytes
 length-line n ends =
     ap length (line-cut n ends)
     ∙ omega (arith, length-append (head n (length ends)) (fields ends ++ lineEnd ∷ []), length-append (fields ends) (lineEnd ∷ []), head-length n (length ends), fields-length ends)
+
+-- CLAIM: the four digits of a number, from the thousands down: those made so far, read as a number, are the whole number divided by 1,000, 100, 10 and then
+-- 1, rounded down
+pub four-quotients : (x : ℕ) → x ≤ greatest
+    → (numberIn (take 1 (digits width x)) ≡ x / 1000 ∷ []) × (numberIn (take 2 (digits width x)) ≡ x / 100 ∷ [])
+    × (numberIn (take 3 (digits width x)) ≡ x / 10 ∷ []) × (numberIn (take 4 (digits width x)) ≡ x / 1 ∷ [])
+unfolding made
+four-quotients x h = (quotient 1 (omega arith), quotient 2 (omega arith), quotient 3 (omega arith), quotient 4 (omega arith))
+  where
+    quotient : (i : ℕ) → i ≤ width → numberIn (take i (digits width x)) ≡ made width i x ∷ []
+    quotient i l = made-digits width i x l (omega arith)
 
 line-starts : (n : ℕ) (ends : List ℕ) → T (startsWith planBytes (line n ends))
 unfolding line startsWith

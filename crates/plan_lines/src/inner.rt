@@ -1,12 +1,12 @@
 // For the two calls of plans: the caller shows what each function requires.
 ghost use mathlib.Core.List.{_∷_, _++_};
 ghost use mathlib.Core.Path.{_≡_};
-ghost use Prim.Native.Nat.{_≤_, _+_, _-_, _<_, _^_};
+ghost use Prim.Native.Nat.{_≤_, _+_, _-_};
 ghost use lib.Dec.{T};
 ghost use lib.ListN.{length, drop};
 ghost use lib.Seq.{sets};
 ghost use Rattle.decimals.specs.Decimal.{comma, digits, digits?, field};
-ghost use Rattle.plan_lines.specs.Line.{fields, line, width, numberAt, field?, ends?, endsIn, bytesFor, placeOfEnd};
+ghost use Rattle.plan_lines.specs.Line.{fields, line, width, greatest, Small, numberAt, field?, ends?, endsIn, bytesFor, placeOfEnd};
 use crate::COUNT_PLACE;
 use crate::LENGTH_PLACE;
 use crate::PREFIX;
@@ -30,7 +30,7 @@ fn copy(out: &mut [u8], from: &[u8])
 
 // Writes a comma and a number in four digits, the digits from place at on.
 fn write_field(out: &mut [u8], at: usize, x: u32)
-    requires { ⌜ (1 ≤ at) × (at + width ≤ length (now out)) ⌝ }
+    requires { ⌜ (1 ≤ at) × (at + width ≤ length (now out)) × (x ≤ greatest) ⌝ }
     ensures { λ _. ⌜ now (out .exit) ≡ sets (now (out .entry)) (at - 1) (comma ∷ digits width x) ⌝ }
 {
     out[at - 1] = COMMA;
@@ -39,7 +39,7 @@ fn write_field(out: &mut [u8], at: usize, x: u32)
 
 // Writes the ends, each after a comma, at their places of a line.
 fn write_ends(ends: &[u32], out: &mut [u8])
-    requires { ⌜ bytesFor (length (now ends)) ≤ length (now out) ⌝ }
+    requires { ⌜ (bytesFor (length (now ends)) ≤ length (now out)) × Small (now ends) ⌝ }
     ensures { λ _. ⌜ now (out .exit) ≡ sets (now (out .entry)) (placeOfEnd 0 - 1) (fields (now (ends .entry))) ⌝ }
 {
     let mut k: usize = 0;
@@ -51,7 +51,7 @@ fn write_ends(ends: &[u32], out: &mut [u8])
 
 // Writes the line of n and ends to the front of the bytes.
 pub fn write_line(n: u32, ends: &[u32], out: &mut [u8])
-    requires { ⌜ (bytesFor (length (now ends)) ≤ length (now out)) × (length (now ends) < 2 ^ 32) ⌝ }
+    requires { ⌜ (bytesFor (length (now ends)) ≤ length (now out)) × Small (n ∷ length (now ends) ∷ now ends) ⌝ }
     ensures { λ _. ⌜ now (out .exit) ≡ sets (now (out .entry)) 0 (line n (now (ends .entry))) ⌝ }
 {
     let count = ends.len();

@@ -13,6 +13,7 @@ use answers::Counted;
 use answers::Refusal;
 use decimals::COMMA;
 use decimals::LINE_END;
+use decimals::MOST_DIGITS;
 use libc::STDOUT_FILENO;
 
 // The longest list of numbers that is printed.
@@ -30,7 +31,7 @@ pub fn text(s: &[u8]) -> usize
 pub fn number(x: u32) -> usize
     ensures { λ r. ⌜ (r ≡ length (plain x)) × (r ≤ 10) ⌝ }
 {
-    let mut digits = [0u8; 10];
+    let mut digits = [0u8; MOST_DIGITS];
     let zero: usize = 0;
     let k = decimals::inner::count(x);
     decimals::inner::write(&mut digits, zero, k, x);

@@ -10,6 +10,7 @@ ghost use Rattle.decimals.specs.Decimal.{comma, plain};
 ghost use Rattle.writers.specs.Line.{line};
 use decimals::COMMA;
 use decimals::LINE_END;
+use decimals::MOST_DIGITS;
 
 // Stores a byte where there is a place for it.
 fn put_byte(out: &mut [u8], at: usize, b: u8) -> usize
@@ -44,7 +45,7 @@ fn put_field(out: &mut [u8], at: usize, x: u32) -> usize
     ensures { λ r. ⌜ r ≡ at + length (comma ∷ plain x) ⌝ }
     ensures { λ _. ⌜ now (out .exit) ≡ sets (now (out .entry)) at (comma ∷ plain x) ⌝ }
 {
-    let mut digits = [0u8; 10];
+    let mut digits = [0u8; MOST_DIGITS];
     let zero: usize = 0;
     let k = decimals::inner::count(x);
     decimals::inner::write(&mut digits, zero, k, x);

@@ -563,10 +563,8 @@ fn judge_ends(n: u32, ends: impl Iterator<Item = u32>) -> Answer<u32> {
 }
 
 fn put_number(out: &mut [u8], x: u32) {
-    let mut rest = x;
-    for place in out[..4].iter_mut().rev() {
-        *place = b'0' + (rest % 10) as u8;
-        rest /= 10;
+    for (place, power) in out[..4].iter_mut().zip([1000, 100, 10, 1]) {
+        *place = b'0' + (x / power % 10) as u8;
     }
 }
 

@@ -11,7 +11,7 @@ use Rattle.answers.specs.Outcome.{accepted, limit}
 use Rattle.plan_lines.specs.Line.{line, bytesFor}
 use Rattle.plans.specs.Calls.{plausible}
 use Rattle.plan_lines.proofs.LineClaims.{length-line}
-use Rattle.plans.proofs.CallClaims.{plausible-low, plausible-length, judge-counts, judge-refuses, write-refused, write-too-few, write-written, write-answered}
+use Rattle.plans.proofs.CallClaims.{plausible-low, plausible-length, plausible-line, judge-counts, judge-refuses, write-refused, write-too-few, write-written, write-answered}
 use Rattle.plans.proofs.write_plan.Statement.{statement}
 use Rattle.plans.proofs.write_plan.Tie as tie
 
@@ -61,7 +61,11 @@ returns c =
     write-answered (g .n) (g .ends .now) (g .out .now) _ _ (w .0) (w .1)
 
 write-line-requires : tie.Need-write-line-requires
-write-line-requires c κs = let b = bounds (c .before .before) in (omega (arith, b, judged (c .before .before) .1), omega (arith, b))
+write-line-requires c κs =
+    let j = judged (c .before .before) in
+    let g = c .before .before .before .before .before .before .before .before .args in
+    let L = plausible-line (g .n) (g .ends .now) _ (j .0) in
+    (omega (arith, bounds (c .before .before), j .1), (L .small-length, (L .small-count, L .small-ends)))
 
 cast-t16 : tie.Need-cast-t16
 cast-t16 c = omega (arith, bounds (c .before .before .before .before .before), judged (c .before .before .before .before .before) .1)

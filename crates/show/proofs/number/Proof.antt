@@ -5,7 +5,7 @@ use borrow.Author.Needs.{needs}
 use lib.ListN.{length-take}
 use Rattle.decimals.specs.Decimal.{digitCount}
 use Rattle.decimals.proofs.Claims.{digits-length}
-use Rattle.decimals.proofs.Fields.{count-most}
+use Rattle.decimals.proofs.Fields.{count-most, counted-fits}
 use Rattle.show.proofs.number.Statement.{statement}
 use Rattle.show.proofs.number.Tie as tie
 
@@ -16,7 +16,7 @@ slice-aggregate-write : tie.Need-slice-aggregate-write
 slice-aggregate-write c = search needs
 
 write-requires : tie.Need-write-requires
-write-requires c κs = omega (arith, c .before .count .ensures, count-most 9 (c .before .before .args .x))
+write-requires c κs = omega (arith, counted-fits (c .before .before .args .x) (c .before .count .result) (omega arith) (c .before .count .ensures))
 
 sub-text : tie.Need-sub-text
 sub-text c = search needs

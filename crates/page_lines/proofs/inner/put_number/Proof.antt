@@ -3,6 +3,7 @@ use native.Mathlib.Omega.{arith}
 use borrow.Author.Needs.{needs}
 use Rattle.decimals.specs.Decimal.{digitCount}
 use Rattle.decimals.proofs.Claims.{digits-length}
+use Rattle.decimals.proofs.Fields.{counted-fits}
 use Rattle.page_lines.proofs.Columns.{right-stored}
 use Rattle.page_lines.proofs.inner.put_number.Statement.{statement}
 use Rattle.page_lines.proofs.inner.put_number.Tie as tie
@@ -22,7 +23,8 @@ add-write c = search needs
 write-requires : tie.Need-write-requires
 write-requires c κs =
     let x = c .before .before .before .before .before .before .before .args .x in
-    omega (arith, c .before .before .before .fill .kept .0, c .before .before .before .before .before .count .ensures, digits-length (digitCount 9 x) x)
+    let n = c .before .before .before .before .before .count in
+    omega (arith, c .before .before .before .fill .kept .0, n .ensures, digits-length (digitCount 9 x) x, counted-fits x (n .result) (omega arith) (n .ensures))
 
 same-length : tie.Need-same-length
 same-length c = search needs

@@ -1,74 +1,56 @@
--- `page_lines::inner::put_symbol` meets its contract: with the digits that are still to be stored the bytes are what they shall be. Assumes nothing.
-use mathlib.Core.Path.{_≡_, refl, sym, ap, _∙_}
-use Prim.Native.Nat.{ℕ, suc, _+_, _-_, _%_, _≤_}
+-- `page_lines::inner::put_symbol` meets its contract: a symbol has two digits, and they are stored. Assumes nothing.
+use mathlib.Core.Path.{sym, ap, _∙_}
+use Prim.Native.Nat.{ℕ, _/_, _%_}
 use native.Mathlib.Omega.{arith}
-use lib.ListN.{length, length-set}
-use lib.Seq.{sets}
-use Rattle.decimals.proofs.Loops.{write-more, write-done}
-use Rattle.page_lines.specs.Line.{hexByte, hexDigits, symbolDigits}
+use native.Mathlib.Numerals.{add-one}
+use borrow.Author.Needs.{needs}
+use lib.ListN.{set}
+use lib.Seq.{sets, lt-length-set}
+use Rattle.page_lines.specs.Line.{hexByte}
+use Rattle.page_lines.proofs.Columns.{symbol-digits}
 use Rattle.page_lines.proofs.inner.put_symbol.Statement.{statement}
 use Rattle.page_lines.proofs.inner.put_symbol.Tie as tie
 
-abbrev Inv-loop : tie.InvT-loop
-Inv-loop out₀ at x rest₀ i₀ out rest i = (i ≤ symbolDigits) × (length out ≡ length out₀) × (sets out at (hexDigits i rest) ≡ sets out₀ at (hexDigits symbolDigits x))
+cast-out : tie.Need-cast-out
+cast-out c = search needs
 
-abbrev μ-loop : tie.MeasureT-loop
-μ-loop out₀ at x rest₀ i₀ out rest i = i
+array-read-out : tie.Need-array-read-out
+array-read-out c = search needs
 
-loop-holds : tie.Need-loop-holds Inv-loop μ-loop
-loop-holds c = (omega arith, refl, refl)
+slice-write-out : tie.Need-slice-write-out
+slice-write-out c = search needs
 
-sub-i : tie.Need-sub-i Inv-loop μ-loop
-sub-i c = omega arith
+cast-out-2 : tie.Need-cast-out-2
+cast-out-2 c = search needs
 
-cast-out : tie.Need-cast-out Inv-loop μ-loop
-cast-out c = omega arith
+array-read-out-2 : tie.Need-array-read-out-2
+array-read-out-2 c = search needs
 
-array-read-out : tie.Need-array-read-out Inv-loop μ-loop
-array-read-out c = omega arith
+add-out : tie.Need-add-out
+add-out c = search needs
 
-add-out : tie.Need-add-out Inv-loop μ-loop
-add-out c = omega arith
+slice-write-out-2 : tie.Need-slice-write-out-2
+slice-write-out-2 c = lt-length-set (c .args .out .now) (c .args .at) _ (omega arith)
 
-slice-write-out : tie.Need-slice-write-out Inv-loop μ-loop
-slice-write-out c = omega arith
+same-length : tie.Need-same-length
+same-length c = search needs
 
-loop-less : tie.Need-loop-less Inv-loop μ-loop
-loop-less c = omega arith
-
-loop-again : tie.Need-loop-again Inv-loop μ-loop
-loop-again c =
-    let l = c .before .loop in
-    let g = c .before .before .args in
-    let e : suc (l .i - 1) ≡ l .i = omega arith in (
-      omega arith,
-      length-set (l .out) (g .at + (l .i - 1)) (hexByte (l .rest % 16)) ∙ l .inv .1,
-      sym (write-more 16 hexByte (l .out) (g .at) (l .i - 1) (l .rest)) ∙ ap (λ (j : ℕ). sets (l .out) (g .at) (hexDigits j (l .rest))) e ∙ l .inv .2,
-    )
-
-same-length : tie.Need-same-length Inv-loop μ-loop
-same-length c = c .before .loop .inv .1
-
-returns : tie.Need-returns Inv-loop μ-loop
+returns : tie.Need-returns
 returns c =
-    let l = c .before .loop in
-    let g = c .before .before .args in
-    let e : l .i ≡ 0 = omega arith in
-    sym (write-done 16 hexByte (l .out) (g .at) (l .rest)) ∙ ap (λ (j : ℕ). sets (l .out) (g .at) (hexDigits j (l .rest))) (sym e) ∙ l .inv .2
+    let g = c .args in
+    ap (λ (i : ℕ). set (set (g .out .now) (g .at) (hexByte (g .x / 16))) i (hexByte (g .x % 16))) (add-one (g .at))
+    ∙ ap (sets (g .out .now) (g .at)) (sym (symbol-digits (g .x) (omega arith)))
 
 pub put-symbol-spec : {M : Type 1} → statement M
 put-symbol-spec =
     tie.close
     (tie.spec
-    Inv-loop
-    μ-loop
-    loop-holds
-    sub-i
     cast-out
     array-read-out
-    add-out
     slice-write-out
-    loop-less
-    loop-again
+    cast-out-2
+    array-read-out-2
+    add-out
+    slice-write-out-2
     same-length
     returns)

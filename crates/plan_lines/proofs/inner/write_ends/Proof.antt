@@ -6,7 +6,8 @@ use native.Mathlib.Omega.{arith}
 use lib.ListN.{length, getD, take}
 use lib.Seq.{sets, take-length}
 use Rattle.decimals.specs.Decimal.{comma, digits}
-use Rattle.plan_lines.specs.Line.{width, fields, placeOfEnd}
+use Rattle.decimals.proofs.Fields.{at-most-at}
+use Rattle.plan_lines.specs.Line.{width, greatest, fields, placeOfEnd}
 use Rattle.plan_lines.proofs.Loops.{write-ends-more}
 use Rattle.plan_lines.proofs.inner.write_ends.Statement.{statement}
 use Rattle.plan_lines.proofs.inner.write_ends.Tie as tie
@@ -33,7 +34,10 @@ shared-slice-read-write-field : tie.Need-shared-slice-read-write-field Inv-loop 
 shared-slice-read-write-field c = omega arith
 
 write-field-requires : tie.Need-write-field-requires Inv-loop μ-loop
-write-field-requires c κs = (omega arith, omega arith)
+write-field-requires c κs =
+    let l = c .before .before .before .loop in
+    let g = c .before .before .before .before .before .before in
+    (omega arith, omega arith, at-most-at greatest (g .args .ends .now) (l .k) (g .pre .1) (omega arith))
 
 add-k : tie.Need-add-k Inv-loop μ-loop
 add-k c = omega arith

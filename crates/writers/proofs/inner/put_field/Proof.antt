@@ -7,7 +7,7 @@ use borrow.Author.Needs.{needs}
 use lib.ListN.{take, replicate, length-take}
 use Rattle.decimals.specs.Decimal.{comma, plain, digits}
 use Rattle.writers.proofs.Stores.{stored, stored-as, ensured, left-all, left-less, left-last, digits-front}
-use Rattle.decimals.proofs.Fields.{count-most}
+use Rattle.decimals.proofs.Fields.{count-most, counted-fits}
 use Rattle.writers.proofs.inner.put_field.Statement.{statement}
 use Rattle.writers.proofs.inner.put_field.Tie as tie
 
@@ -18,7 +18,7 @@ slice-aggregate-write : tie.Need-slice-aggregate-write
 slice-aggregate-write c = search needs
 
 write-requires : tie.Need-write-requires
-write-requires c κs = omega (arith, c .before .count .ensures, count-most 9 (c .before .before .before .args .x))
+write-requires c κs = omega (arith, counted-fits (c .before .before .before .args .x) (c .before .count .result) (omega arith) (c .before .count .ensures))
 
 put-byte-requires : tie.Need-put-byte-requires
 put-byte-requires c κs = search needs
