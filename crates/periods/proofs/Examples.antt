@@ -1,14 +1,17 @@
 -- The documents' examples of the definitions that the contracts of this crate cite, computed. Assumes nothing.
-use mathlib.Core.Path.{_≡_, refl}
+use mathlib.Core.Path.{_≡_, refl, ap, _∙_}
 use mathlib.Core.Bool.{true, false}
-use mathlib.Core.List.{List, [], _∷_, _++_}
-use Prim.Native.Nat.{ℕ}
-use lib.ListN.{replicate}
+use mathlib.Core.List.{List, [], _∷_, _++_, map}
+use Prim.Native.Nat.{ℕ, zero, suc}
+use native.Mathlib.Omega.{arith}
+use lib.ListN.{length, replicate, length-append}
 use Rattle.answers.specs.Outcome.{accepted, refused}
 use Rattle.periods.specs.Period.{smallestPeriod, repetition?, prefixPeriods, anyPeriod, unitsTable}
+use Rattle.periods.specs.Square.{twice, power, Primitive, square?}
 use Rattle.periods.specs.Edition.{badEdition?, turnsOf}
 use Rattle.periods.specs.Part.{partOutcome, partTable, description}
-use Rattle.periods.proofs.Words.{word-aaa, word-aaaaa, word-aabaabaa, word-ababa}
+use Rattle.periods.proofs.Squares.{power-empty}
+use Rattle.periods.proofs.Words.{word-a, word-aa, word-aaa, word-aaaa, word-aaaaa, word-aabaabaa, word-ab, word-ababa, word-empty}
 
 -- "ababa * | 5 (unit 2, turns 2, rest 1)"
 pub part-of-ababa : partOutcome word-ababa 1 1 5 5 ≡ accepted (2 ∷ 2 ∷ 1 ∷ 1 ∷ [])
@@ -132,3 +135,41 @@ units-outside = refl
 pub units-edition-3 : partTable word-ababa 3 1 5 (replicate 5 7) ≡ replicate 5 7
 unfolding partTable badEdition?
 units-edition-3 = refl
+
+-- "Batten shops wind a unit exactly twice"
+pub twice-is-2 : twice ≡ 2
+twice-is-2 = refl
+
+-- "x^k = x^(k-1) · x"
+pub ab-to-2 : power 2 word-ab ≡ 97 ∷ 98 ∷ 97 ∷ 98 ∷ []
+ab-to-2 = refl
+
+pub ab-to-3 : power 3 word-ab ≡ 97 ∷ 98 ∷ 97 ∷ 98 ∷ 97 ∷ 98 ∷ []
+ab-to-3 = refl
+
+-- "primitive if there does not exist a string x and an integer k ≥ 2": a is, aa and abab are not, two times over being enough
+pub a-primitive : Primitive word-a
+a-primitive x (suc (suc k)) two e = go x e
+  where
+    go : (x : List ℕ) → word-a ≡ power (suc (suc k)) x → ⊥
+    go [] e = omega (arith, ap length (e ∙ power-empty (suc (suc k))))
+    go (y ∷ ys) e = omega (arith, ap length e, length-append (power (suc k) (y ∷ ys)) (y ∷ ys), length-append (power k (y ∷ ys)) (y ∷ ys))
+a-primitive x (suc zero) two e = omega arith
+a-primitive x zero two e = omega arith
+
+pub aa-not-primitive : Primitive word-aa → ⊥
+aa-not-primitive P = P word-a 2 (omega arith) refl
+
+pub abab-not-primitive : Primitive (97 ∷ 98 ∷ 97 ∷ 98 ∷ []) → ⊥
+abab-not-primitive P = P word-ab 2 (omega arith) refl
+
+-- "For any non-empty string x, a repetition x^2 is called a square": aa, abab, aaaa and aabaab; "A square's half need not be primitive", as that of aaaa
+pub squares : map square? (word-aa ∷ power 2 word-ab ∷ word-aaaa ∷ (97 ∷ 97 ∷ 98 ∷ 97 ∷ 97 ∷ 98 ∷ []) ∷ []) ≡ replicate 4 true
+unfolding square?
+squares = refl
+
+-- the empty word, a, aba, ababa, abaab and abba are none
+pub no-squares :
+    map square? (word-empty ∷ word-a ∷ (97 ∷ 98 ∷ 97 ∷ []) ∷ word-ababa ∷ (97 ∷ 98 ∷ 97 ∷ 97 ∷ 98 ∷ []) ∷ (97 ∷ 98 ∷ 98 ∷ 97 ∷ []) ∷ []) ≡ replicate 6 false
+unfolding square?
+no-squares = refl

@@ -1,14 +1,14 @@
 -- Periods of a part in its place: between the boundaries a and b of a sequence of symbols `f : ℕ → ℕ`, counted from 0. A word handed on by itself has
 -- the periods that it has in its place (`period-in`, `period-out`), so that laws about slices and prefixes are laws about places; so has a part of a word
--- (`part-smallest-in`, `part-smallest-out`). Assumes nothing.
+-- (`part-smallest-in`, `part-smallest-out`). And a part that is cut in two (`part-cut`). Assumes nothing.
 use mathlib.Core.Path.{_≡_, refl, sym, ap, _∙_, subst}
-use mathlib.Core.List.{List}
+use mathlib.Core.List.{List, _++_}
 use Prim.Native.Nat.{ℕ, suc, _+_, _-_, _≤_, _<_}
 use native.Mathlib.Omega.{arith}
 use native.Mathlib.Decide.{decLt}
 use native.Mathlib.Nat.{zero-add}
 use lib.ListN.{length, getD, take, drop, length-take, length-drop}
-use lib.Seq.{getD-take, getD-drop}
+use lib.Seq.{getD-take, getD-drop, take-add, drop-drop, take-at, drop-at}
 use Rattle.periods.specs.Period.{part, Period, SmallestPeriod}
 
 pub record PeriodIn (f : ℕ → ℕ) (a b p : ℕ) : Type 0 where
@@ -62,6 +62,23 @@ placed-part w a b h = record {
   long = length-take (b - a) (drop a w) ∙ omega (arith, length-drop a w);
   symbols = λ i l. getD-take (b - a) (drop a w) i 0 l ∙ getD-drop a w i 0;
 }
+
+-- two parts that meet at a boundary make one
+part-append : (w : List ℕ) (a c b : ℕ) → a ≤ c → c ≤ b → part w a b ≡ part w a c ++ part w c b
+part-append w a c b h k =
+    let e : b - a ≡ c - a + (b - c) = omega arith in
+    let f : a + (c - a) ≡ c = omega arith in
+    ap (λ (n : ℕ). take n (drop a w)) e ∙ take-add (c - a) (b - c) (drop a w)
+    ∙ ap (λ (x : List ℕ). take (c - a) (drop a w) ++ take (b - c) x) (drop-drop (c - a) a w ∙ ap (λ (n : ℕ). drop n w) f)
+
+-- and where a part is two words, one after the other, they are its parts on either side of the boundary between them
+pub part-cut : (w u v : List ℕ) (a c b : ℕ) → a ≤ c → c ≤ b → b ≤ length w → length u ≡ c - a → part w a b ≡ u ++ v → (part w a c ≡ u) × (part w c b ≡ v)
+part-cut w u v a c b h k l long e =
+    let n = placed-part w a c (omega arith) .long in
+    let q = sym (part-append w a c b h k) ∙ e in (
+      sym (take-at (part w a c) (part w c b) (c - a) n) ∙ ap (take (c - a)) q ∙ take-at u v (c - a) long,
+      sym (drop-at (part w a c) (part w c b) (c - a) n) ∙ ap (drop (c - a)) q ∙ drop-at u v (c - a) long,
+    )
 
 pub part-smallest-in : (w : List ℕ) (a b p : ℕ) → b ≤ length w → SmallestPeriod (part w a b) p → SmallestIn (symbol w) a b p
 part-smallest-in w a b p h S =

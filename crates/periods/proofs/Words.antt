@@ -46,3 +46,6 @@ word-abaabaababaabaabababa = 97 ∷ 98 ∷ 97 ∷ 97 ∷ 98 ∷ 97 ∷ 97 ∷ 98
 
 abbrev pub word-aabaabaacbbcbbcbb : List ℕ
 word-aabaabaacbbcbbcbb = 97 ∷ 97 ∷ 98 ∷ 97 ∷ 97 ∷ 98 ∷ 97 ∷ 97 ∷ 99 ∷ 98 ∷ 98 ∷ 99 ∷ 98 ∷ 98 ∷ 99 ∷ 98 ∷ 98 ∷ []
+
+abbrev pub word-abaababaabbbaabbbb : List ℕ
+word-abaababaabbbaabbbb = 97 ∷ 98 ∷ 97 ∷ 97 ∷ 98 ∷ 97 ∷ 98 ∷ 97 ∷ 97 ∷ 98 ∷ 98 ∷ 98 ∷ 97 ∷ 97 ∷ 98 ∷ 98 ∷ 98 ∷ 98 ∷ []

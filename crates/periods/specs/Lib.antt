@@ -1,3 +1,4 @@
 pub mod Period
+pub mod Square
 pub mod Edition
 pub mod Part

@@ -1,7 +1,8 @@
-// Parts of a word, their periods, the editions, and the part call.
+// Parts of a word, their periods, squares, the editions, and the part call.
 ghost use mathlib.Core.Path.{_≡_};
 ghost use lib.ListN.{length};
 ghost use Rattle.periods.specs.Period.{smallestPeriod};
+ghost use Rattle.periods.specs.Square.{square?};
 ghost use Rattle.periods.specs.Edition.{badEdition?, turnsOf};
 ghost use Rattle.periods.specs.Part.{partView, partOutcome, partTable, PartMeaning};
 
@@ -20,6 +21,9 @@ pub const FIRST_TURNS: usize = 2;
 
 // The same of edition 2.
 pub const SECOND_TURNS: usize = 3;
+
+// How often the half of a square stands in it.
+pub const TWICE: usize = 2;
 
 // What the part call says of a part: document 01's unit, turns, rest, and block or not.
 pub struct Description {
@@ -76,6 +80,29 @@ pub fn smallest_period(part: &[u8]) -> usize
         }
         break p;
     }
+}
+
+// Whether the part that is lent is a square: a non-empty word twice over. Time linear in the part's
+// length; no stack.
+pub fn is_square(part: &[u8]) -> bool
+    ensures { λ r. ⌜ r ≡ square? (now (part .entry)) ⌝ }
+{
+    let n = part.len();
+    if n == 0 {
+        return false;
+    }
+    if n % TWICE != 0 {
+        return false;
+    }
+    let half = n / TWICE;
+    let mut i: usize = 0;
+    while i < half {
+        if part[i] != part[i + half] {
+            return false;
+        }
+        i += 1;
+    }
+    true
 }
 
 // The part call: unit, turns, rest, and block or not, of the symbols at the positions first to
