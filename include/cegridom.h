@@ -5,7 +5,9 @@
  * of a part is its smallest period. A block (repetition) is a part at least 2 x its unit long in
  * edition 1, and at least 3 x in edition 2. A run is a block of edition 1 that cannot be
  * lengthened; runs and their numbers are the same in both editions. A split (factorization) is a
- * series of blocks that join up to the word, given by the positions of their ends.
+ * series of blocks that join up to the word, given by the positions of their ends. A square is a
+ * non-empty word twice over; the calls on squares split into them instead of into blocks, and are
+ * told no edition.
  *
  * Every call about words or plans returns 0 for accepted, else the number of the refusal: of those
  * that the call's comment lists, the first that is met, in the order listed. *index is the number
@@ -42,13 +44,14 @@ extern "C" {
 
 /* The version of this header, in numbers and as text; cegridom_version gives the archive's. */
 #define CEGRIDOM_VERSION_MAJOR 0
-#define CEGRIDOM_VERSION_MINOR 6
+#define CEGRIDOM_VERSION_MINOR 7
 #define CEGRIDOM_VERSION (1000 * CEGRIDOM_VERSION_MAJOR + CEGRIDOM_VERSION_MINOR)
-#define CEGRIDOM_VERSION_STRING "0.6"
+#define CEGRIDOM_VERSION_STRING "0.7"
 
 /* The longest word that is taken. */
 #define CEGRIDOM_LIMIT 4096
-/* What the working table of cegridom_best_split holds for a prefix that has no split. */
+/* What the working tables of cegridom_best_split and cegridom_best_squares hold for a prefix that
+   has no split. */
 #define CEGRIDOM_NONE 4294967295u
 
 /* The places that the table of cegridom_part needs, for the part from first to last: its length, as
@@ -56,7 +59,8 @@ extern "C" {
 #define CEGRIDOM_UNIT_PLACES(first, last) ((first) > (last) ? 0 : (size_t)(last) - (first) + 1)
 /* The places that a working table needs, for a word of n symbols; of two words, for the longer. */
 #define CEGRIDOM_WORK_PLACES(n) (4 * ((n) + 1))
-/* The most ends that a split of a word of n symbols has in edition 1; in edition 2 they suffice. */
+/* The most ends that a split of a word of n symbols has in edition 1; in edition 2 and for squares
+   they suffice. */
 #define CEGRIDOM_MOST_ENDS(n) ((n) / 2)
 /* The places that so many runs take: first, last, unit of each. */
 #define CEGRIDOM_RUN_PLACES(runs) (3 * (runs))
@@ -69,16 +73,18 @@ extern "C" {
 #define CEGRIDOM_PLAN_ENDS(bytes) ((bytes) < 15 ? 0 : ((bytes) - 15) / 5)
 
 /* Editions of the winder's controller, told to each call that tests for blocks or nodes: the old
-   winders hold a block from 2 x its unit on, the new one from 3 x its unit on. */
+   winders hold a block from 2 x its unit on, the new one from 3 x its unit on. They do not apply to
+   squares. */
 #define CEGRIDOM_EDITION_1 1
 #define CEGRIDOM_EDITION_2 2
 
-/* Choices of cegridom_best_split. */
+/* Choices of cegridom_best_split and cegridom_best_squares. */
 #define CEGRIDOM_FEWEST 1
 #define CEGRIDOM_MOST 2
 
 /* The results of a call; cegridom_message gives the same words. Of two words, 1 says that either is
-   too long, 9 goes by the longer, and 2 says that neither has a split. */
+   too long, 9 goes by the longer, and 2 says that neither has a split. For squares, 2 says that no
+   split into squares exists. */
 enum cegridom_result {
     /* accepted */
     CEGRIDOM_ACCEPTED = 0,
@@ -88,8 +94,9 @@ enum cegridom_result {
     CEGRIDOM_NO_SPLIT = 2,
     /* an end not above the one before it (0 before the first), or above n */
     CEGRIDOM_BAD_END = 3,
-    /* the piece up to this end is not a block; for a path, no run has that number, or the run does
-       not enclose the piece, or the piece is shorter than 2 x (edition 2: 3 x) the run's unit */
+    /* the piece up to this end is not a block; for squares, not a square; for a path, no run has
+       that number, or the run does not enclose the piece, or the piece is shorter than 2 x (edition
+       2: 3 x) the run's unit */
     CEGRIDOM_NOT_BLOCK = 4,
     /* the last end (0 if there are none) is not n */
     CEGRIDOM_UNFINISHED = 5,
@@ -121,9 +128,9 @@ static inline const char *cegridom_message(uint32_t result) {
     case CEGRIDOM_BAD_END:
         return "an end not above the one before it (0 before the first), or above n";
     case CEGRIDOM_NOT_BLOCK:
-        return "the piece up to this end is not a block; for a path, no run has that number, or "
-               "the run does not enclose the piece, or the piece is shorter than 2 x (edition 2: "
-               "3 x) the run's unit";
+        return "the piece up to this end is not a block; for squares, not a square; for a path, "
+               "no run has that number, or the run does not enclose the piece, or the piece is "
+               "shorter than 2 x (edition 2: 3 x) the run's unit";
     case CEGRIDOM_UNFINISHED:
         return "the last end (0 if there are none) is not n";
     case CEGRIDOM_BAD_POSITION:
@@ -204,6 +211,22 @@ uint32_t cegridom_best_split(const uint8_t *word, size_t n, uint32_t edition, ui
                              uint32_t *size, uint32_t *index);
 
 /*
+ * Best squares: writes the ends of the split into squares with the fewest (choice 1) or the most
+ * (choice 2) of them, and gives its size, the number of its squares. The half of a square need not
+ * be primitive: aaaa is one. Of the splits of that size it is the one whose last square is longest,
+ * then the one before it, and so on. A word of odd length has none.
+ * Reads word; changes the first size places of ends. Refusals: 1, 8, 9, 2, 7.
+ * The working table afterwards holds in its first n + 1 places the best size of each prefix length
+ * 0 to n, CEGRIDOM_NONE where the prefix has no split into squares, and 0 in the following
+ * 3 x (n+1); after an answer and after refusals 2 and 7 alike. After 1, 8 and 9 it keeps its
+ * contents. Places past 4 x (n+1) never change.
+ * Time at most quadratic in n; 300 bytes of stack and 48 a square of the split, 97 KiB at most.
+ */
+uint32_t cegridom_best_squares(const uint8_t *word, size_t n, uint32_t choice, uint32_t *ends,
+                               size_t end_places, uint32_t *work, size_t work_places,
+                               uint32_t *size, uint32_t *index);
+
+/*
  * Which first: gives 1 for a or 2 for b, the word that has fewer blocks of the edition in its
  * fewest split. The first wins a tie; if only one can be split it is that one.
  * Reads a and b, which may overlap or be the same. Refusals: 1 for either; 12; 9 for the longer; 2
@@ -237,6 +260,15 @@ uint32_t cegridom_first_block(const uint8_t *a, size_t a_n, const uint8_t *b, si
  */
 uint32_t cegridom_judge_split(const uint8_t *word, size_t n, uint32_t edition, const uint32_t *ends,
                               size_t end_count, uint32_t *blocks, uint32_t *index);
+
+/*
+ * Judge squares: accepted, with the number of squares, exactly when the ends are those of a split
+ * into squares.
+ * Reads word and ends. Refusals: 1; then for each end in turn 3, 4; then 5.
+ * Time linear in n.
+ */
+uint32_t cegridom_judge_squares(const uint8_t *word, size_t n, const uint32_t *ends,
+                                size_t end_count, uint32_t *blocks, uint32_t *index);
 
 /*
  * Path of a split: writes the run number of each block to table, and gives the number of blocks.

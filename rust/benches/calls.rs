@@ -144,6 +144,8 @@ struct Input {
     /// Its number.
     edition: u32,
     ends: Vec<u32>,
+    /// The ends of squares.
+    square_ends: Vec<u32>,
     path: Vec<u32>,
     plan_ends: Vec<u32>,
     plan: Vec<u8>,
@@ -158,9 +160,11 @@ impl Input {
         Input::split(word, edition, ends)
     }
 
-    /// The word with these ends.
+    /// The word with these ends. Those of squares are of the split with the most, where there is one;
+    /// else the whole word as one.
     fn split(word: Vec<u8>, edition: Edition, ends: Vec<u32>) -> Input {
         let n = word.len() as u32;
+        let square_ends = cegridom::best_squares(&word, Choice::Most).unwrap_or(vec![n]);
         let runs = cegridom::path_of_split(&word, edition, &ends).unwrap_or(vec![1]);
         let path = runs.iter().zip(&ends).flat_map(|(&r, &e)| [r, e]).collect();
         let plan_ends: Vec<u32> = (1..=n / 2).map(|k| 2 * k).collect();
@@ -170,6 +174,7 @@ impl Input {
             word,
             edition: edition.number(),
             ends,
+            square_ends,
             path,
             plan_ends,
             plan,
@@ -279,12 +284,34 @@ fn twin_best(input: &Input, b: &mut Buffers, choice: Choice) -> Answer {
     twin::best_split(w, input.edition, choice, &mut b.table, &mut b.work).map(|v| padded([v]))
 }
 
+fn library_squares(input: &Input, b: &mut Buffers, choice: Choice) -> Answer {
+    let (w, e, t) = (&input.word, &mut b.table, &mut b.work);
+    answer(|[size], index| unsafe {
+        raw::cegridom_best_squares(
+            w.as_ptr(),
+            w.len(),
+            choice.number(),
+            e.as_mut_ptr(),
+            e.len(),
+            t.as_mut_ptr(),
+            t.len(),
+            size,
+            index,
+        )
+    })
+}
+
+fn twin_squares(input: &Input, b: &mut Buffers, choice: Choice) -> Answer {
+    let (w, choice) = (&input.word, choice.number());
+    twin::best_squares(w, choice, &mut b.table, &mut b.work).map(|v| padded([v]))
+}
+
 const PATH: &str = "path of a split";
 const PAGE: &str = "write a page";
 const WHICH: &str = "which first";
 const BLOCK: &str = "first block";
 
-static CALLS: [Call; 13] = [
+static CALLS: [Call; 16] = [
     Call {
         name: "part",
         on: On::Word,
@@ -366,6 +393,20 @@ static CALLS: [Call; 13] = [
         twin: |input, b| twin_best(input, b, Choice::Most),
     },
     Call {
+        name: "best squares, fewest",
+        on: On::Word,
+        in_editions: false,
+        library: |input, b| library_squares(input, b, Choice::Fewest),
+        twin: |input, b| twin_squares(input, b, Choice::Fewest),
+    },
+    Call {
+        name: "best squares, most",
+        on: On::Word,
+        in_editions: false,
+        library: |input, b| library_squares(input, b, Choice::Most),
+        twin: |input, b| twin_squares(input, b, Choice::Most),
+    },
+    Call {
         name: WHICH,
         on: On::TwoWords,
         in_editions: true,
@@ -429,6 +470,18 @@ static CALLS: [Call; 13] = [
         twin: |input, _| {
             twin::judge_split(&input.word, input.edition, &input.ends).map(|v| padded([v]))
         },
+    },
+    Call {
+        name: "judge squares",
+        on: On::Word,
+        in_editions: false,
+        library: |input, _| {
+            let (w, e) = (&input.word, &input.square_ends);
+            answer(|[blocks], index| unsafe {
+                raw::cegridom_judge_squares(w.as_ptr(), w.len(), e.as_ptr(), e.len(), blocks, index)
+            })
+        },
+        twin: |input, _| twin::judge_squares(&input.word, &input.square_ends).map(|v| padded([v])),
     },
     Call {
         name: PATH,
@@ -706,7 +759,7 @@ fn editions(call: &Call) -> &'static [Edition] {
 }
 
 fn time(calls: impl Iterator<Item = &'static Call>) {
-    println!("Time of one call in microseconds, by the length of the word, or of each of two; growth is the factor for each doubling, on average from 512 to 4,096 (4 is quadratic); ratio is the library's time over the twin's at 4,096; to edition 1 is the library's time in edition 2 over that in edition 1, for the same word of 4,096 symbols and the same split or path. A split or path that is judged is the edition's own; in edition 2, for both times of the last column, edition 2's.\n");
+    println!("Time of one call in microseconds, by the length of the word, or of each of two; growth is the factor for each doubling, on average from 512 to 4,096 (4 is quadratic); ratio is the library's time over the twin's at 4,096; to edition 1 is the library's time in edition 2 over that in edition 1, for the same word of 4,096 symbols and the same split or path. A split or path that is judged is the edition's own; in edition 2, for both times of the last column, edition 2's. Squares that are judged are the most, or the whole word where it has no split into squares.\n");
     println!(
         "| call | edition | word | answer | 512 | 1,024 | 2,048 | 4,096 | growth | twin, 4,096 | ratio | to edition 1 |"
     );
@@ -721,13 +774,17 @@ fn time(calls: impl Iterator<Item = &'static Call>) {
             }
         }
     }
-    let best_splits = rows.iter().filter(|row| row.call.starts_with("best split"));
+    let slowest = |name| {
+        let named = rows.iter().filter(|row| row.call.starts_with(name));
+        greatest(named.map(Row::longest)) * MILLI
+    };
     println!(
-        "\nWorst ratio {:.2}, worst growth {:.2}, worst to edition 1 {:.2}; slowest best split of 4,096 symbols {:.1} ms.",
+        "\nWorst ratio {:.2}, worst growth {:.2}, worst to edition 1 {:.2}; slowest best split of 4,096 symbols {:.1} ms, slowest best squares {:.1} ms.",
         greatest(rows.iter().map(Row::ratio)),
         greatest(rows.iter().map(Row::growth)),
         greatest(rows.iter().filter_map(|row| row.to_first)),
-        greatest(best_splits.map(Row::longest)) * MILLI
+        slowest("best split"),
+        slowest("best squares")
     );
     for row in rows.iter().filter(|row| row.ratio() > MOST_RATIO) {
         let (call, word, ratio) = (row.call, &row.word, row.ratio());

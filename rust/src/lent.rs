@@ -27,12 +27,12 @@ impl Edition {
     }
 }
 
-/// Whether the split with the fewest or with the most blocks is wanted.
+/// Whether the split with the fewest or with the most blocks or squares is wanted.
 #[derive(Clone, Copy, Debug, PartialEq, Eq, Hash)]
 pub enum Choice {
-    /// The fewest blocks: choice 1.
+    /// The fewest: choice 1.
     Fewest,
-    /// The most blocks: choice 2.
+    /// The most: choice 2.
     Most,
 }
 
@@ -291,6 +291,63 @@ pub fn best_split_into(
     })
 }
 
+/// Writes the ends of the split into squares with the fewest or the most of them, and gives its size,
+/// the number of its squares. The half of a square need not be primitive: `aaaa` is one. Of the
+/// splits of that size it is the one whose last square is longest, then the one before it, and so
+/// on. A word of odd length has none.
+///
+/// Refusals: 1, 9, 2, 7. Time at most quadratic in the length; 48 bytes of stack a square of the
+/// split, 97 KiB at most.
+///
+/// The working table needs [`work_places`](crate::work_places) places, and those past them never
+/// change. After an answer, and after 2 and 7 too, its first `n + 1` places hold the best size of
+/// each leading part of 0 to `n` symbols, [`NONE`](crate::NONE) where it has no split into squares,
+/// and the next `3 * (n + 1)` hold 0. After 1 and 9 it keeps its contents.
+///
+/// ```
+/// use cegridom::{best_squares_into, work_places, Choice, Refusal, NONE};
+///
+/// let mut ends = [9; 3];
+/// let mut work = [9; work_places(4)];
+/// assert_eq!(best_squares_into(b"aaaa", Choice::Fewest, &mut ends, &mut work), Ok(1));
+/// assert_eq!(ends, [4, 9, 9]);
+/// assert_eq!(work[..5], [0, NONE, 1, NONE, 1]);
+///
+/// assert_eq!(best_squares_into(b"aaaa", Choice::Most, &mut ends, &mut work), Ok(2));
+/// assert_eq!(ends, [2, 4, 9]);
+/// assert_eq!(work[..5], [0, NONE, 1, NONE, 2]);
+///
+/// let odd = best_squares_into(b"aaa", Choice::Most, &mut ends, &mut work);
+/// assert_eq!(odd, Err(Refusal::NoSplit));
+/// assert_eq!(ends, [2, 4, 9]);
+/// assert_eq!(work[..4], [0, NONE, 1, NONE]);
+/// ```
+pub fn best_squares_into(
+    word: &[u8],
+    choice: Choice,
+    ends: &mut [u32],
+    work: &mut [u32],
+) -> Result<usize, Refusal> {
+    let (n, word) = (word.len(), word.as_ptr());
+    let choice = choice.number();
+    let (end_places, ends) = (ends.len(), ends.as_mut_ptr());
+    let (work_places, work) = (work.len(), work.as_mut_ptr());
+    // SAFETY: as said at the head of this file.
+    count(|size, index| unsafe {
+        raw::cegridom_best_squares(
+            word,
+            n,
+            choice,
+            ends,
+            end_places,
+            work,
+            work_places,
+            size,
+            index,
+        )
+    })
+}
+
 /// Which of two words has fewer blocks in its fewest split. The first wins a tie; if only one can
 /// be split it is that one. The two may overlap or be the same.
 ///
@@ -409,6 +466,33 @@ pub fn judge_split(word: &[u8], edition: Edition, ends: &[u32]) -> Result<usize,
     // SAFETY: as said at the head of this file.
     count(|blocks, index| unsafe {
         raw::cegridom_judge_split(word, n, edition, ends, end_count, blocks, index)
+    })
+}
+
+/// Judges a split into squares, given by its ends: the number of its squares, or what is wrong with
+/// it.
+///
+/// Refusals: 1; then for each end in turn 3, 4; then 5. Time linear in the length.
+///
+/// ```
+/// use cegridom::{judge_squares, judge_split, Edition, Refusal};
+///
+/// let word = b"aabaabaa";
+/// assert_eq!(judge_squares(word, &[2, 8]), Ok(2));
+/// assert_eq!(judge_squares(word, &[6, 8]), Ok(2));
+/// assert_eq!(judge_squares(word, &[2, 2, 8]), Err(Refusal::BadEnd { index: 2 }));
+/// assert_eq!(judge_squares(word, &[2]), Err(Refusal::Unfinished));
+///
+/// // The whole word is a block, with a rest of two, and not a square.
+/// assert_eq!(judge_split(word, Edition::One, &[8]), Ok(1));
+/// assert_eq!(judge_squares(word, &[8]), Err(Refusal::NotBlock { index: 1 }));
+/// ```
+pub fn judge_squares(word: &[u8], ends: &[u32]) -> Result<usize, Refusal> {
+    let (n, word) = (word.len(), word.as_ptr());
+    let (end_count, ends) = (ends.len(), ends.as_ptr());
+    // SAFETY: as said at the head of this file.
+    count(|blocks, index| unsafe {
+        raw::cegridom_judge_squares(word, n, ends, end_count, blocks, index)
     })
 }
 

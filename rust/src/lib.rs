@@ -7,17 +7,20 @@
 //! [`Edition`]. A *run* is a block of edition 1 that cannot be lengthened; runs and their numbers
 //! are the same in both editions. A *split* of a word is a series of blocks that join up to it,
 //! given by the positions of their ends. The field calls a block a repetition, its unit its
-//! smallest period, and a split a repetition factorization.
+//! smallest period, and a split a repetition factorization. A *square* is a non-empty word twice
+//! over; [`best_squares_into`] and [`judge_squares`] split into squares instead of blocks, and are
+//! told no edition.
 //!
 //! ```
 //! # #[cfg(feature = "alloc")] {
-//! use cegridom::{best_split, part, Choice, Edition, Refusal};
+//! use cegridom::{best_split, best_squares, part, Choice, Edition, Refusal};
 //!
 //! let word = b"aabaabaa";
 //! assert_eq!(best_split(word, Edition::One, Choice::Fewest), Ok(vec![8]));
 //! assert_eq!(best_split(word, Edition::One, Choice::Most), Ok(vec![2, 8]));
 //! assert_eq!(best_split(word, Edition::Two, Choice::Fewest), Err(Refusal::NoSplit));
 //! assert_eq!(best_split(b"aaaaaa", Edition::Two, Choice::Most), Ok(vec![3, 6]));
+//! assert_eq!(best_squares(word, Choice::Fewest), Ok(vec![2, 8]));
 //! assert_eq!(part(word, Edition::One, 3, 8).unwrap().unit, 3);
 //! # }
 //! ```
@@ -32,10 +35,10 @@
 //!
 //! # Memory and threads
 //!
-//! [`judge_split`], [`judge_path`], [`version`] and the functions named `.._into`, which work in
-//! tables that the caller lends, allocate nothing. The others allocate their tables; they come with
-//! the feature `alloc`, which is on by default. Without it the crate needs `core` alone. The archive
-//! needs the C library's `memset` and `memcpy` and nothing else.
+//! [`judge_split`], [`judge_squares`], [`judge_path`], [`version`] and the functions named
+//! `.._into`, which work in tables that the caller lends, allocate nothing. The others allocate
+//! their tables; they come with the feature `alloc`, which is on by default. Without it the crate
+//! needs `core` alone. The archive needs the C library's `memset` and `memcpy` and nothing else.
 //!
 //! No call keeps state, so any number of threads may call at once. What the archive takes of the
 //! stack is said in the text of each function, 97 KiB at most; where nothing is said, it is under
@@ -64,21 +67,22 @@ pub mod raw;
 mod refusal;
 
 pub use lent::{
-    best_split_into, first_block_into, judge_path, judge_split, nodes_into, part_into,
-    path_of_split_into, read_plan_into, runs_into, version, which_first_into, write_page_into,
-    write_plan_into, Choice, Edition, Part, Run, Step, Which,
+    best_split_into, best_squares_into, first_block_into, judge_path, judge_split, judge_squares,
+    nodes_into, part_into, path_of_split_into, read_plan_into, runs_into, version,
+    which_first_into, write_page_into, write_plan_into, Choice, Edition, Part, Run, Step, Which,
 };
 #[cfg(feature = "alloc")]
 pub use owned::{
-    best_sizes, best_split, first_block, nodes, part, path_of_split, read_plan, runs, units,
-    which_first, write_page, write_plan, Plan,
+    best_sizes, best_split, best_squares, best_squares_sizes, first_block, nodes, part,
+    path_of_split, read_plan, runs, units, which_first, write_page, write_plan, Plan,
 };
 pub use refusal::Refusal;
 
 /// The longest word that the library takes.
 pub const LIMIT: usize = 4096;
 
-/// What the working table of [`best_split_into`] holds for a leading part that has no split.
+/// What the working tables of [`best_split_into`] and [`best_squares_into`] hold for a leading part
+/// that has no split.
 pub const NONE: u32 = 4_294_967_295;
 
 /// The places that a working table needs for a word of `n` symbols; of two words, for the longer.
@@ -90,7 +94,8 @@ pub const fn work_places(n: usize) -> usize {
     n.saturating_add(1).saturating_mul(4)
 }
 
-/// The most ends that a split of a word of `n` symbols has in edition 1; in edition 2 they suffice.
+/// The most ends that a split of a word of `n` symbols has in edition 1; in edition 2 and for squares
+/// they suffice.
 ///
 /// ```
 /// assert_eq!(cegridom::most_ends(5), 2);

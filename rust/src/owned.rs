@@ -1,9 +1,10 @@
 //! The calls that allocate their tables.
 
 use crate::{
-    best_split_into, first_block_into, most_ends, nodes_into, page_bytes, part_into,
-    path_of_split_into, plan_bytes, read_plan_into, runs_into, which_first_into, work_places,
-    write_page_into, write_plan_into, Choice, Edition, Part, Refusal, Run, Which, LIMIT, NONE,
+    best_split_into, best_squares_into, first_block_into, most_ends, nodes_into, page_bytes,
+    part_into, path_of_split_into, plan_bytes, read_plan_into, runs_into, which_first_into,
+    work_places, write_page_into, write_plan_into, Choice, Edition, Part, Refusal, Run, Which,
+    LIMIT, NONE,
 };
 use alloc::vec;
 use alloc::vec::Vec;
@@ -44,6 +45,35 @@ fn unit_table(word: &[u8], first: u32, last: u32) -> Vec<u32> {
     let before = (first as usize).saturating_sub(1);
     let end = allowed(word.len()).min(last as usize);
     vec![0; end.saturating_sub(before)]
+}
+
+/// The ends that a call writes, which is lent a table for them and a working table.
+fn written(
+    word: &[u8],
+    call: impl FnOnce(&mut [u32], &mut [u32]) -> Result<usize, Refusal>,
+) -> Result<Vec<u32>, Refusal> {
+    let n = allowed(word.len());
+    let mut ends = vec![0; most_ends(n)];
+    let mut work = vec![0; work_places(n)];
+    let size = call(&mut ends, &mut work)?;
+    Ok(front(ends, size))
+}
+
+/// The sizes that a call leaves in its working table, which is lent no places for ends: 7 and 2 leave
+/// that table as an answer does.
+fn sizes(
+    word: &[u8],
+    call: impl FnOnce(&mut [u32], &mut [u32]) -> Result<usize, Refusal>,
+) -> Result<Vec<Option<u32>>, Refusal> {
+    let n = allowed(word.len());
+    let mut work = vec![0; work_places(n)];
+    match call(&mut [], &mut work) {
+        Ok(_) | Err(Refusal::TooFewPlaces | Refusal::NoSplit) => {
+            let known = |&size: &u32| (size != NONE).then_some(size);
+            Ok(work.iter().take(n + 1).map(known).collect())
+        }
+        Err(refusal) => Err(refusal),
+    }
 }
 
 /// A working table for two words.
@@ -144,11 +174,9 @@ pub fn nodes(word: &[u8], edition: Edition, position: u32) -> Result<Vec<u32>, R
 /// assert_eq!(best_split(word, Edition::Two, Choice::Fewest), Err(Refusal::NoSplit));
 /// ```
 pub fn best_split(word: &[u8], edition: Edition, choice: Choice) -> Result<Vec<u32>, Refusal> {
-    let n = allowed(word.len());
-    let mut ends = vec![0; most_ends(n)];
-    let mut work = vec![0; work_places(n)];
-    let size = best_split_into(word, edition, choice, &mut ends, &mut work)?;
-    Ok(front(ends, size))
+    written(word, |ends, work| {
+        best_split_into(word, edition, choice, ends, work)
+    })
 }
 
 /// The size of the best split of each leading part, from the empty one to the whole word; `None`
@@ -169,16 +197,54 @@ pub fn best_sizes(
     edition: Edition,
     choice: Choice,
 ) -> Result<Vec<Option<u32>>, Refusal> {
-    let n = allowed(word.len());
-    let mut work = vec![0; work_places(n)];
-    // No places for ends are lent: 7 and 2 leave the working table as an answer does.
-    match best_split_into(word, edition, choice, &mut [], &mut work) {
-        Ok(_) | Err(Refusal::TooFewPlaces | Refusal::NoSplit) => {
-            let known = |&size: &u32| (size != NONE).then_some(size);
-            Ok(work.iter().take(n + 1).map(known).collect())
-        }
-        Err(refusal) => Err(refusal),
-    }
+    sizes(word, |ends, work| {
+        best_split_into(word, edition, choice, ends, work)
+    })
+}
+
+/// The ends of the split into squares with the fewest or the most of them. The half of a square need
+/// not be primitive. Of the splits of that size it is the one whose last square is longest, then the
+/// one before it, and so on. A word of odd length has none.
+///
+/// Refusals: 1, 2. Allocates [`most_ends`] and [`work_places`] numbers while it works; 48 bytes of
+/// stack a square of the split, 97 KiB at most.
+///
+/// ```
+/// use cegridom::{best_squares, Choice, Refusal};
+///
+/// assert_eq!(best_squares(b"aaaa", Choice::Fewest), Ok(vec![4]));
+/// assert_eq!(best_squares(b"aaaa", Choice::Most), Ok(vec![2, 4]));
+/// assert_eq!(best_squares(b"aabaabaa", Choice::Fewest), Ok(vec![2, 8]));
+/// assert_eq!(best_squares(b"aabaabaa", Choice::Most), Ok(vec![2, 8]));
+/// assert_eq!(best_squares(b"ababa", Choice::Most), Err(Refusal::NoSplit));
+///
+/// let word = b"abaababaabbbaabbbb";
+/// assert_eq!(best_squares(word, Choice::Fewest), Ok(vec![6, 16, 18]));
+/// assert_eq!(best_squares(word, Choice::Most), Ok(vec![10, 12, 14, 16, 18]));
+/// ```
+pub fn best_squares(word: &[u8], choice: Choice) -> Result<Vec<u32>, Refusal> {
+    written(word, |ends, work| {
+        best_squares_into(word, choice, ends, work)
+    })
+}
+
+/// The size of the best split into squares of each leading part, from the empty one to the whole
+/// word; `None` where it has no such split.
+///
+/// Refusal: 1. Allocates [`work_places`] numbers while it works, and its answer.
+///
+/// ```
+/// use cegridom::{best_squares_sizes, Choice};
+///
+/// assert_eq!(
+///     best_squares_sizes(b"aaaa", Choice::Most),
+///     Ok(vec![Some(0), None, Some(1), None, Some(2)])
+/// );
+/// ```
+pub fn best_squares_sizes(word: &[u8], choice: Choice) -> Result<Vec<Option<u32>>, Refusal> {
+    sizes(word, |ends, work| {
+        best_squares_into(word, choice, ends, work)
+    })
 }
 
 /// Which of two words has fewer blocks in its fewest split. The first wins a tie; if only one can

@@ -107,6 +107,21 @@ extern "C" {
         index: *mut u32,
     ) -> u32;
 
+    /// Behind [`best_squares_into`](crate::best_squares_into). The choice is 1 for the fewest
+    /// squares, 2 for the most. Refusals: 1, 8, 9, 2, 7. After 8 the working table keeps its
+    /// contents, as after 1 and 9.
+    pub fn cegridom_best_squares(
+        word: *const u8,
+        n: usize,
+        choice: u32,
+        ends: *mut u32,
+        end_places: usize,
+        work: *mut u32,
+        work_places: usize,
+        size: *mut u32,
+        index: *mut u32,
+    ) -> u32;
+
     /// Behind [`which_first_into`](crate::which_first_into). `*which` is 1 for `a`, 2 for `b`.
     /// Refusals: 1 for either; 12; 9 for the longer; 2 if neither can be split. After 12 the working
     /// table keeps its contents, as after 1 and 9.
@@ -142,6 +157,16 @@ extern "C" {
         word: *const u8,
         n: usize,
         edition: u32,
+        ends: *const u32,
+        end_count: usize,
+        blocks: *mut u32,
+        index: *mut u32,
+    ) -> u32;
+
+    /// Behind [`judge_squares`](crate::judge_squares). Refusals: 1; for each end in turn 3, 4; 5.
+    pub fn cegridom_judge_squares(
+        word: *const u8,
+        n: usize,
         ends: *const u32,
         end_count: usize,
         blocks: *mut u32,

@@ -18,16 +18,16 @@ use core::fmt;
 pub enum Refusal {
     /// 1: the word, or either of two, is longer than [`LIMIT`].
     TooLong,
-    /// 2: no split exists; of two words, neither has one.
+    /// 2: no split exists; of two words, neither has one; for squares, no split into squares.
     NoSplit,
     /// 3: an end is not above the one before it (0 before the first), or is above the length.
     BadEnd {
         /// Which end, from 1.
         index: u32,
     },
-    /// 4: the piece up to this end is not a block; for a path, no run has the number given, or the
-    /// run does not enclose the piece, or the piece is shorter than twice (in edition 2, three
-    /// times) the run's unit.
+    /// 4: the piece up to this end is not a block; for squares, not a square; for a path, no run has
+    /// the number given, or the run does not enclose the piece, or the piece is shorter than twice
+    /// (in edition 2, three times) the run's unit.
     NotBlock {
         /// Which end, from 1.
         index: u32,
@@ -131,7 +131,8 @@ impl fmt::Display for Refusal {
             ),
             Refusal::NotBlock { index } => write!(
                 f,
-                "the piece up to end {index} is not a block, or not one of the run given"
+                "the piece up to end {index} is not a block (for squares, not a square), or not one \
+                 of the run given"
             ),
             Refusal::Unfinished => write!(f, "the last end is not the length"),
             Refusal::BadPosition => write!(f, "positions outside the word, or in the wrong order"),

@@ -121,6 +121,27 @@ impl<'a> Known<'a> {
     }
 }
 
+/// A word and its best splits into squares, by choice.
+struct Squared<'a> {
+    word: &'a [u8],
+    bests: [Best; 2],
+}
+
+impl<'a> Squared<'a> {
+    fn of(word: &'a [u8]) -> Squared<'a> {
+        let bests = match word.len() {
+            0..=LIMIT => reference::best_squares(word),
+            _ => Default::default(),
+        };
+        Squared { word, bests }
+    }
+
+    /// Any, where the choice is none: the call then refuses without it.
+    fn best(&self, choice: u32) -> &Best {
+        &self.bests[(choice == 2) as usize]
+    }
+}
+
 impl Checker {
     fn count(&mut self, outcome: &Outcome) {
         self.made += 1;
@@ -238,6 +259,33 @@ impl Checker {
         self.count(&expected);
     }
 
+    fn best_squares(&mut self, known: &Squared, choice: u32, places: usize, work_places: usize) {
+        let w = known.word;
+        let mut ends = Lent::new(places);
+        let mut work = Lent::new(work_places);
+        let (mut size, mut index) = (GUARD, GUARD);
+        let (e, t) = (ends.table(), work.table());
+        let result = unsafe {
+            raw::cegridom_best_squares(
+                w.as_ptr(),
+                w.len(),
+                choice,
+                e.as_mut_ptr(),
+                e.len(),
+                t.as_mut_ptr(),
+                t.len(),
+                &mut size,
+                &mut index,
+            )
+        };
+        let (expected, front, work_front) =
+            reference::best_squares_call(w, choice, known.best(choice), places, work_places);
+        compare(result, index, &[size], &expected, "best squares");
+        ends.changed_to(&front, "the ends of best squares");
+        work.changed_to(&work_front, "the working table of best squares");
+        self.count(&expected);
+    }
+
     fn which_first(&mut self, a: &Known, b: &Known, edition: u32, work_places: usize) {
         let mut work = Lent::new(work_places);
         let (mut which, mut index) = (GUARD, GUARD);
@@ -302,6 +350,23 @@ impl Checker {
         };
         let expected = reference::judge_split_call(w, edition, ends);
         compare(result, index, &[blocks], &expected, "judge a split");
+        self.count(&expected);
+    }
+
+    fn judge_squares(&mut self, w: &[u8], ends: &[u32]) {
+        let (mut blocks, mut index) = (GUARD, GUARD);
+        let result = unsafe {
+            raw::cegridom_judge_squares(
+                w.as_ptr(),
+                w.len(),
+                ends.as_ptr(),
+                ends.len(),
+                &mut blocks,
+                &mut index,
+            )
+        };
+        let expected = reference::judge_squares_call(w, ends);
+        compare(result, index, &[blocks], &expected, "judge squares");
         self.count(&expected);
     }
 
@@ -453,6 +518,22 @@ impl Checker {
         }
     }
 
+    fn squares_sizes(&mut self, known: &Squared, choice: u32) {
+        let n = known.word.len();
+        let size = known.best(choice).1.as_ref().map_or(0, Vec::len);
+        let work = 4 * (n + 1);
+        for places in around(size, n) {
+            self.best_squares(known, choice, places, work);
+        }
+        let others = around(work, n).into_iter();
+        for work_places in others.filter(|&places| places != work) {
+            self.best_squares(known, choice, size, work_places);
+        }
+        // Too few places of both tables.
+        self.best_squares(known, choice, 0, work - 1);
+        self.best_squares(known, choice, 0, 0);
+    }
+
     fn two(&mut self, a: &Known, b: &Known, edition: u32, work_places: usize) {
         self.which_first(a, b, edition, work_places);
         self.first_block(a, b, edition, work_places);
@@ -485,6 +566,22 @@ impl Checker {
         for places in around(ends.len(), 0) {
             self.read_plan(&line, places);
         }
+    }
+
+    /// Ends of squares and each of them changed, and the ends cut short.
+    fn squares_and_near(&mut self, w: &[u8], ends: &[u32]) {
+        self.judge_squares(w, ends);
+        let mut near = ends.to_vec();
+        for i in 0..ends.len() {
+            for change in [0, near[i] - 1, near[i] + 1, near[i] + 2, u32::MAX] {
+                near[i] = change;
+                self.judge_squares(w, &near);
+                near[i] = ends[i];
+            }
+            self.judge_squares(w, &ends[..i]);
+        }
+        near.push(w.len() as u32);
+        self.judge_squares(w, &near);
     }
 
     /// A path and its numbers changed one at a time.
@@ -612,6 +709,26 @@ impl Numbers {
         }
     }
 
+    /// A square of a half that is a power of up to 3, of a root up to a length.
+    fn square(&mut self, longest: usize, symbols: usize) -> Vec<u8> {
+        let span = 1 + self.below(longest);
+        let turns = 2 * (1 + self.below(3));
+        self.word(span, symbols).repeat(turns)
+    }
+
+    /// At most n symbols of such squares, and where each ends.
+    fn squares(&mut self, n: usize, longest: usize, symbols: usize) -> (Vec<u8>, Vec<u32>) {
+        let (mut word, mut ends) = (Vec::new(), Vec::new());
+        loop {
+            let square = self.square(longest, symbols);
+            if word.len() + square.len() > n {
+                return (word, ends);
+            }
+            word.extend(square);
+            ends.push(word.len() as u32);
+        }
+    }
+
     /// The same ends but for one, which is changed, left out or doubled.
     fn damaged(&mut self, ends: &[u32]) -> Vec<u32> {
         let mut near = ends.to_vec();
@@ -674,7 +791,8 @@ fn reference_follows_the_definitions() {
         for (edition, bests) in EDITIONS.into_iter().zip(bests) {
             let turns = reference::turns(edition).unwrap();
             for (choice, best) in [1, 2].into_iter().zip(bests) {
-                assert_eq!(best, reference::plain_best(w, turns, choice));
+                let splits = |part: &[u8]| reference::plain_splits(part, turns);
+                assert_eq!(best, reference::plain_best(w, choice, splits));
                 made += 1;
             }
             // The splits and the paths of each leading length go together one to one.
@@ -692,6 +810,60 @@ fn reference_follows_the_definitions() {
         }
     });
     println!("the reference against the definitions: {made} comparisons");
+}
+
+/// Longer ones than for blocks, since few of the short ones have a split into squares.
+fn every_word_for_squares(mut with: impl FnMut(&[u8])) {
+    every_word(2, 12, &mut with);
+    every_word(3, 8, &mut with);
+}
+
+#[test]
+fn reference_of_squares_follows_the_definitions() {
+    let mut made = 0u64;
+    every_word_for_squares(|w| {
+        assert_eq!(reference::is_square(w), reference::plain_is_square(w));
+        let bests = reference::best_squares(w);
+        for (choice, best) in [1, 2].into_iter().zip(bests) {
+            assert_eq!(
+                best,
+                reference::plain_best(w, choice, reference::plain_squares)
+            );
+            made += 1;
+        }
+    });
+    println!("the reference of squares against the definitions: {made} comparisons");
+}
+
+/// Every split of most squares has squares of primitive halves only, and the one that the library
+/// gives is one of them.
+#[test]
+fn most_squares_have_primitive_halves() {
+    let mut made = 0u64;
+    let mut others = 0u64;
+    let mut look = |w: &[u8]| {
+        let splits = reference::plain_squares(w);
+        let most = splits.iter().map(Vec::len).max();
+        for ends in &splits {
+            let primitive = reference::halves(w, ends).all(reference::plain_is_primitive);
+            if Some(ends.len()) == most {
+                assert!(primitive, "{w:?} {ends:?}");
+            } else if !primitive {
+                others += 1;
+            }
+            made += 1;
+        }
+        match cegridom::best_squares(w, Choice::Most) {
+            Ok(ends) => assert!(Some(ends.len()) == most && splits.contains(&ends)),
+            Err(refusal) => assert!(refusal == Refusal::NoSplit && splits.is_empty()),
+        }
+        made += 1;
+    };
+    every_word(2, 14, &mut look);
+    every_word(3, 9, &mut look);
+    // Splits of fewer squares have halves that are powers.
+    assert!(others > 0);
+    println!("primitive halves of most squares: {made} comparisons");
 }
 
 // ---- the library against the reference
@@ -752,6 +924,116 @@ fn short_words_best_split() {
         }
     });
     checker.report("best split of short words");
+}
+
+#[test]
+fn short_words_best_squares() {
+    let mut checker = Checker::default();
+    every_word_for_squares(|w| {
+        let known = Squared::of(w);
+        let work = 4 * (w.len() + 1);
+        for choice in [1, 2] {
+            checker.squares_sizes(&known, choice);
+        }
+        for choice in [0, 3, u32::MAX] {
+            checker.best_squares(&known, choice, w.len(), work);
+            checker.best_squares(&known, choice, w.len(), work - 1);
+            checker.best_squares(&known, choice, 0, 0);
+        }
+    });
+    checker.report("best squares of short words");
+}
+
+#[test]
+fn short_words_judged_squares() {
+    let mut checker = Checker::default();
+    every_short_word(|w| {
+        for ends in rising_ends(w.len() as u32) {
+            checker.judge_squares(w, &ends);
+        }
+        // Splits into blocks too, most of which are not squares.
+        for ends in reference::plain_splits(w, 2) {
+            checker.judge_squares(w, &ends);
+        }
+    });
+    every_word_for_squares(|w| {
+        for ends in reference::plain_squares(w) {
+            checker.squares_and_near(w, &ends);
+        }
+    });
+    checker.report("judged squares of short words");
+}
+
+#[test]
+fn long_words_squares() {
+    let mut checker = Checker::default();
+    let mut numbers = Numbers(1_181_783_497);
+    for n in (11..140).step_by(7).chain([255, 256, 511, 1000, 2048]) {
+        for w in structured(n) {
+            long_squares(&mut checker, &mut numbers, &w, &[]);
+        }
+    }
+    // Squares joined, over few symbols and over all, with short halves and long ones; the same word
+    // doubled, and with one symbol changed.
+    for n in [8, 20, 41, 90, 250, 1100] {
+        for longest in [1, 3, 10, n / 4 + 1] {
+            for symbols in [1, 2, 3, 256] {
+                for _ in 0..if n < LONG { 10 } else { 1 } {
+                    let (mut w, ends) = numbers.squares(n, longest, symbols);
+                    long_squares(&mut checker, &mut numbers, &w, &ends);
+                    long_squares(&mut checker, &mut numbers, &w.repeat(2), &[]);
+                    if !w.is_empty() {
+                        let at = numbers.below(w.len());
+                        w[at] ^= 1;
+                        long_squares(&mut checker, &mut numbers, &w, &ends);
+                    }
+                }
+            }
+        }
+    }
+    checker.report("squares of long words");
+}
+
+/// The longest words, among them one square whose half has no square but of equal symbols.
+#[test]
+fn longest_words_squares() {
+    let mut checker = Checker::default();
+    let mut numbers = Numbers(2_862_933_555);
+    for w in structured(LIMIT) {
+        long_squares(&mut checker, &mut numbers, &w, &[]);
+    }
+    let w = last_differs(LIMIT / 2).repeat(2);
+    long_squares(&mut checker, &mut numbers, &w, &[LIMIT as u32]);
+    for (longest, symbols) in [(1, 2), (40, 2), (300, 3)] {
+        let (w, ends) = numbers.squares(LIMIT, longest, symbols);
+        long_squares(&mut checker, &mut numbers, &w, &ends);
+    }
+    checker.report("squares of longest words");
+}
+
+/// The best splits of a word into squares, others that are given, and what is near them.
+fn long_squares(checker: &mut Checker, numbers: &mut Numbers, w: &[u8], ends: &[u32]) {
+    let known = Squared::of(w);
+    let work = 4 * (w.len() + 1);
+    for choice in [1, 2] {
+        checker.squares_sizes(&known, choice);
+    }
+    for choice in [0, 3, u32::MAX] {
+        checker.best_squares(&known, choice, w.len(), work);
+        checker.best_squares(&known, choice, w.len(), work - 1);
+    }
+    let bests = known.bests.iter().filter_map(|best| best.1.as_deref());
+    for ends in bests.chain([ends]) {
+        checker.judge_squares(w, ends);
+        if ends.is_empty() {
+            continue;
+        }
+        for _ in 0..if w.len() < LONG { 10 } else { 3 } {
+            let near = numbers.damaged(ends);
+            checker.judge_squares(w, &near);
+        }
+        checker.judge_squares(w, &ends[..ends.len() - 1]);
+    }
 }
 
 fn all_known(words: &[Vec<u8>]) -> Vec<Known<'_>> {
@@ -1150,6 +1432,16 @@ fn words_over_the_limit() {
             for places in [0, 3, 3 * n] {
                 checker.runs(&known, places);
             }
+            let squared = Squared::of(&w);
+            for choice in [0, 1, 2, 3] {
+                for work_places in [0, 4 * 4097, 4 * (n + 1)] {
+                    checker.best_squares(&squared, choice, n, work_places);
+                    checker.best_squares(&squared, choice, 0, work_places);
+                }
+            }
+            for ends in [&[][..], &[all], &[0], &[all + 1]] {
+                checker.judge_squares(&w, ends);
+            }
             for edition in [0, 1, 2, 3] {
                 for places in [0, n] {
                     for (first, last) in [(1, all), (0, all), (2, 1)] {
@@ -1327,6 +1619,45 @@ fn every_refusal_in_its_order() {
     expect(&mut checker, 0, &|c| c.best_split(&known, 1, 2, 2, 36));
     expect(&mut checker, 7, &|c| c.best_split(&equal, 2, 2, 1, 28));
     expect(&mut checker, 0, &|c| c.best_split(&equal, 2, 2, 2, 28));
+    // best squares: 1, 8, 9, 2, 7
+    let [squared, odd, none] = [&word[..], b"aaa", b"ab"].map(Squared::of);
+    let [no_squares, squares_over] = [&b""[..], &long].map(Squared::of);
+    expect(&mut checker, 1, &|c| c.best_squares(&squares_over, 3, 0, 0));
+    expect(&mut checker, 1, &|c| {
+        c.best_squares(&squares_over, 1, 4097, 4 * 4098)
+    });
+    for known in [&squared, &odd, &none, &no_squares] {
+        let work = 4 * (known.word.len() + 1);
+        for choice in [0, 3, u32::MAX] {
+            expect(&mut checker, 8, &|c| c.best_squares(known, choice, 0, 0));
+            expect(&mut checker, 8, &|c| {
+                c.best_squares(known, choice, 9, work - 1)
+            });
+            expect(&mut checker, 8, &|c| c.best_squares(known, choice, 9, work));
+        }
+        for choice in [1, 2] {
+            expect(&mut checker, 9, &|c| c.best_squares(known, choice, 0, 0));
+            expect(&mut checker, 9, &|c| {
+                c.best_squares(known, choice, 9, work - 1)
+            });
+        }
+    }
+    for choice in [1, 2] {
+        expect(&mut checker, 2, &|c| c.best_squares(&odd, choice, 0, 16));
+        expect(&mut checker, 2, &|c| c.best_squares(&none, choice, 9, 13));
+        expect(&mut checker, 7, &|c| {
+            c.best_squares(&squared, choice, 0, 36)
+        });
+        expect(&mut checker, 7, &|c| {
+            c.best_squares(&squared, choice, 1, 36)
+        });
+        expect(&mut checker, 0, &|c| {
+            c.best_squares(&squared, choice, 2, 36)
+        });
+        expect(&mut checker, 0, &|c| {
+            c.best_squares(&no_squares, choice, 0, 4)
+        });
+    }
     // which first: 1 for either; 12; 9 for the longer; 2 if neither splits
     for (a, b) in [(&too_long, &baa), (&baa, &too_long), (&too_long, &too_long)] {
         expect(&mut checker, 1, &|c| c.which_first(a, b, 0, 0));
@@ -1366,7 +1697,23 @@ fn every_refusal_in_its_order() {
     expect(&mut checker, 5, &|c| c.judge_split(word, 1, &[2]));
     expect(&mut checker, 4, &|c| c.judge_split(word, 2, &[2, 2, 8]));
     expect(&mut checker, 4, &|c| c.judge_split(word, 2, &[8]));
-    // path of a split: the same, then 7
+    // judge squares: 1; 3, 4 for each end; 5
+    expect(&mut checker, 1, &|c| c.judge_squares(&long, &[0]));
+    expect(&mut checker, 1, &|c| c.judge_squares(&long, &[]));
+    expect(&mut checker, 3, &|c| c.judge_squares(word, &[0]));
+    expect(&mut checker, 3, &|c| c.judge_squares(word, &[9]));
+    expect(&mut checker, 3, &|c| c.judge_squares(word, &[2, 2, 7]));
+    expect(&mut checker, 3, &|c| c.judge_squares(b"", &[0]));
+    expect(&mut checker, 4, &|c| c.judge_squares(word, &[8]));
+    expect(&mut checker, 4, &|c| c.judge_squares(word, &[3, 3]));
+    expect(&mut checker, 4, &|c| c.judge_squares(word, &[2, 4]));
+    expect(&mut checker, 4, &|c| c.judge_squares(word, &[2, 5, 9]));
+    expect(&mut checker, 5, &|c| c.judge_squares(word, &[]));
+    expect(&mut checker, 5, &|c| c.judge_squares(word, &[6]));
+    expect(&mut checker, 0, &|c| c.judge_squares(word, &[2, 8]));
+    expect(&mut checker, 0, &|c| c.judge_squares(word, &[6, 8]));
+    expect(&mut checker, 0, &|c| c.judge_squares(b"", &[]));
+    // path of a split: the same as judge a split, then 7
     expect(&mut checker, 1, &|c| c.path_of_split(&too_long, 0, &[0], 0));
     expect(&mut checker, 12, &|c| c.path_of_split(&known, 0, &[9], 0));
     expect(&mut checker, 12, &|c| c.path_of_split(&known, 3, &[8], 1));
@@ -1491,6 +1838,15 @@ fn as_which(values: &[u32]) -> Which {
     both.find(|which| [which.number()] == values).unwrap()
 }
 
+/// The sizes of the best splits of a word's leading parts, `None` for none, or refusal 1.
+fn sizes_of(w: &[u8], sizes: &[u32]) -> Result<Vec<Option<u32>>, (u32, u32)> {
+    let known = sizes.iter().map(|&s| (s != reference::NONE).then_some(s));
+    match w.len() {
+        0..=LIMIT => Ok(known.collect()),
+        _ => Err((1, 0)),
+    }
+}
+
 fn as_runs(flat: &[u32]) -> Vec<cegridom::Run> {
     flat.chunks_exact(raw::RUN_PLACES)
         .map(|r| cegridom::Run {
@@ -1570,11 +1926,7 @@ impl Wrappers {
         let (outcome, ends, _) = call(MANY, MANY);
         let got = cegridom::best_split(w, edition, choice);
         self.agree(got, said(outcome, |_| ends.clone()));
-        let sizes = best.0.iter().map(|&s| (s != reference::NONE).then_some(s));
-        let expected = match w.len() {
-            0..=LIMIT => Ok(sizes.collect()),
-            _ => Err((1, 0)),
-        };
+        let expected = sizes_of(w, &best.0);
         self.agree(cegridom::best_sizes(w, edition, choice), expected);
         let exact = cegridom::work_places(w.len());
         for (places, work_places) in [
@@ -1591,6 +1943,63 @@ impl Wrappers {
             assert_eq!(work, table(&work_front, work_places, GUARD));
         }
         ends
+    }
+
+    fn best_squares(&mut self, known: &Squared, choice: Choice) {
+        let (w, best) = (known.word, known.best(choice.number()));
+        let call = |places, work_places| {
+            reference::best_squares_call(w, choice.number(), best, places, work_places)
+        };
+        let (outcome, ends, _) = call(MANY, MANY);
+        let got = cegridom::best_squares(w, choice);
+        self.agree(got, said(outcome, |_| ends.clone()));
+        let expected = sizes_of(w, &best.0);
+        self.agree(cegridom::best_squares_sizes(w, choice), expected);
+        let exact = cegridom::work_places(w.len());
+        for (places, work_places) in [
+            (ends.len().saturating_sub(1), exact),
+            (ends.len(), exact),
+            (ends.len() + 1, exact + 1),
+            (ends.len(), exact - 1),
+        ] {
+            let (mut lent, mut work) = (vec![GUARD; places], vec![GUARD; work_places]);
+            let (outcome, front, work_front) = call(places, work_places);
+            let got = cegridom::best_squares_into(w, choice, &mut lent, &mut work);
+            self.agree(got, said(outcome, only));
+            assert_eq!(lent, table(&front, places, GUARD));
+            assert_eq!(work, table(&work_front, work_places, GUARD));
+        }
+        self.judge_squares(w, &ends);
+    }
+
+    fn judge_squares(&mut self, w: &[u8], ends: &[u32]) {
+        let outcome = reference::judge_squares_call(w, ends);
+        self.agree(cegridom::judge_squares(w, ends), said(outcome, only));
+    }
+
+    /// What the calls on squares promise of one another and of those on blocks, by the library's own
+    /// answers: a square is a block of edition 1, and a word twice over is a square.
+    fn square_promises(&mut self, w: &[u8]) {
+        let blocks = |choice| cegridom::best_split(w, Edition::One, choice).map(|ends| ends.len());
+        let [fewest, most] = [Choice::Fewest, Choice::Most].map(|c| cegridom::best_squares(w, c));
+        assert_eq!(fewest.is_ok(), most.is_ok());
+        for ends in [&fewest, &most].into_iter().flatten() {
+            assert_eq!(cegridom::judge_squares(w, ends), Ok(ends.len()));
+            assert_eq!(cegridom::judge_split(w, Edition::One, ends), Ok(ends.len()));
+            assert!(blocks(Choice::Fewest).unwrap() <= ends.len());
+            assert!(blocks(Choice::Most).unwrap() >= ends.len());
+        }
+        if let (Ok(fewest), Ok(most)) = (fewest, most) {
+            assert!(fewest.len() <= most.len());
+            assert!(reference::halves(w, &most).all(reference::plain_is_primitive));
+        }
+        let twice = w.repeat(2);
+        let whole = match twice.len() as u32 {
+            0 => vec![],
+            n => vec![n],
+        };
+        assert_eq!(cegridom::best_squares(&twice, Choice::Fewest), Ok(whole));
+        self.made += 1;
     }
 
     /// A part of two words is the one expected, by which word and how long: of the caller's own
@@ -1765,6 +2174,35 @@ fn wrappers() {
         }
     }
     println!("the wrappers: {} comparisons", wrappers.made);
+}
+
+/// The functions of the crate on squares.
+#[test]
+fn wrappers_on_squares() {
+    let mut wrappers = Wrappers::default();
+    let mut numbers = Numbers(1_442_695_040);
+    let mut words = structured(200);
+    for longest in [1, 5, 30] {
+        for symbols in [2, 256] {
+            words.push(numbers.squares(200, longest, symbols).0);
+        }
+    }
+    every_word(2, 10, |w| words.push(w.to_vec()));
+    for w in &words {
+        wrappers.square_promises(w);
+    }
+    words.extend([LIMIT - 1, LIMIT, LIMIT + 1].map(|n| vec![b'a'; n]));
+    for w in &words {
+        let known = Squared::of(w);
+        let n = w.len() as u32;
+        for choice in [Choice::Fewest, Choice::Most] {
+            wrappers.best_squares(&known, choice);
+        }
+        for ends in [&[][..], &[0], &[n], &[2, n], &[n, n], &[n + 1]] {
+            wrappers.judge_squares(w, ends);
+        }
+    }
+    println!("the wrappers on squares: {} comparisons", wrappers.made);
 }
 
 /// The functions of the crate on two words.

@@ -1,6 +1,7 @@
-//! What the types of the crate promise: refusals and their numbers, lengths that do not fit, a page
-//! byte for byte, the first block as a part of the caller's bytes, what the units of a part, a page
-//! and the calls on two words take of memory, and the example `fewest`.
+//! What the types of the crate promise: refusals and their numbers, lengths that do not fit, the
+//! squares of the documents, a page byte for byte, the first block as a part of the caller's bytes,
+//! what the units of a part, squares, a page and the calls on two words take of memory, and the
+//! example `fewest`.
 
 use cegridom::{Choice, Edition, Refusal, Which, LIMIT};
 use std::alloc::{GlobalAlloc, Layout, System};
@@ -108,6 +109,41 @@ fn the_archive_has_the_version_of_the_crate() {
     let number = |text: &str| text.parse::<u32>().unwrap();
     assert_eq!(major, number(env!("CARGO_PKG_VERSION_MAJOR")));
     assert_eq!(minor, number(env!("CARGO_PKG_VERSION_MINOR")));
+}
+
+#[test]
+fn squares_of_the_documents() {
+    let both = |word| [Choice::Fewest, Choice::Most].map(|c| cegridom::best_squares(word, c));
+    assert_eq!(both(b"aaaa"), [Ok(vec![4]), Ok(vec![2, 4])]);
+    assert_eq!(both(b"aabaabaa"), [Ok(vec![2, 8]), Ok(vec![2, 8])]);
+    assert_eq!(
+        both(b"abaababaabbbaabbbb"),
+        [Ok(vec![6, 16, 18]), Ok(vec![10, 12, 14, 16, 18])]
+    );
+    // Odd lengths, though of equal symbols or of two turns and a rest, and halves that differ.
+    for word in [&b"a"[..], b"aaa", b"ababa", b"aabaabaab", b"ab", b"abba"] {
+        assert_eq!(both(word), [Err(Refusal::NoSplit), Err(Refusal::NoSplit)]);
+    }
+    // The empty word has one split, of no squares.
+    assert_eq!(both(b""), [Ok(vec![]), Ok(vec![])]);
+    assert_eq!(cegridom::judge_squares(b"", &[]), Ok(0));
+    let mut work = [9; 5];
+    let empty = cegridom::best_squares_into(b"", Choice::Fewest, &mut [], &mut work);
+    assert_eq!((empty, work), (Ok(0), [0, 0, 0, 0, 9]));
+    // Of the tables only that to work in is changed by a refusal, and by 2 and 7 alone.
+    let (none, choice) = (cegridom::NONE, Choice::Most);
+    let (mut ends, mut work) = ([9; 1], [9; 21]);
+    let few = cegridom::best_squares_into(b"aaaa", choice, &mut ends, &mut work);
+    assert_eq!((few, ends), (Err(Refusal::TooFewPlaces), [9]));
+    assert_eq!(work[..5], [0, none, 1, none, 2]);
+    assert_eq!(work[5..], [[0; 15].as_slice(), &[9]].concat());
+    let short = cegridom::best_squares_into(b"aaaa", choice, &mut ends, &mut work[..19]);
+    assert_eq!((short, ends), (Err(Refusal::ShortTable), [9]));
+    assert_eq!(work[..5], [0, none, 1, none, 2]);
+    let odd = cegridom::best_squares_into(b"aba", choice, &mut ends, &mut work);
+    assert_eq!((odd, ends), (Err(Refusal::NoSplit), [9]));
+    assert_eq!(work[..4], [0, none, none, none]);
+    assert_eq!(work[4..], [[0; 16].as_slice(), &[9]].concat());
 }
 
 #[test]
@@ -250,6 +286,29 @@ fn a_refused_part_allocates_no_more_than_the_word() {
         let said = part_allocations(&too_long, first, last);
         assert_eq!(said, ([0; 3], [Some(Refusal::TooLong); 3]));
     }
+}
+
+#[test]
+fn squares_allocate_the_ends_and_a_working_table() {
+    let longest = [b'a'; LIMIT];
+    let (mut ends, mut work) = ([0; LIMIT / 2], [0; cegridom::work_places(LIMIT)]);
+    for word in [&b"aabaabaa"[..], b"ababa", b"", &longest] {
+        let n = word.len();
+        let places = cegridom::most_ends(n) + cegridom::work_places(n);
+        // The answer may be moved to a table of its own size.
+        let answer = cegridom::best_squares(word, Choice::Most).map_or(0, |ends| ends.len());
+        let (numbers, _) = numbers_allocated(|| cegridom::best_squares(word, Choice::Most));
+        assert!((places..=places + answer).contains(&numbers), "{numbers}");
+        let (numbers, _) = numbers_allocated(|| {
+            let size = cegridom::best_squares_into(word, Choice::Most, &mut ends, &mut work);
+            cegridom::judge_squares(word, &ends[..size.unwrap_or(0)])
+        });
+        assert_eq!(numbers, 0);
+    }
+    // No more than for the empty word, where the word is too long.
+    let too_long = vec![b'a'; 1_000_000];
+    let said = numbers_allocated(|| cegridom::best_squares(&too_long, Choice::Most));
+    assert_eq!(said, (cegridom::work_places(0), Err(Refusal::TooLong)));
 }
 
 #[test]

@@ -68,6 +68,10 @@ static int begins(const uint32_t *places, const uint32_t *numbers, size_t count)
 static const uint32_t no_editions[] = {0, 3, 4294967295u};
 #define NO_EDITIONS (sizeof no_editions / sizeof *no_editions)
 
+/* Numbers that are no choice. */
+static const uint32_t no_choices[] = {0, 3, 4294967295u};
+#define NO_CHOICES (sizeof no_choices / sizeof *no_choices)
+
 static void test_version(void) {
     char text[32];
     snprintf(text, sizeof text, "%d.%d", CEGRIDOM_VERSION_MAJOR, CEGRIDOM_VERSION_MINOR);
@@ -82,9 +86,9 @@ static void test_message(void) {
         "n above 4,096",
         "no split exists",
         "an end not above the one before it (0 before the first), or above n",
-        "the piece up to this end is not a block; for a path, no run has that number, or the run "
-        "does not enclose the piece, or the piece is shorter than 2 x (edition 2: 3 x) the run's "
-        "unit",
+        "the piece up to this end is not a block; for squares, not a square; for a path, no run "
+        "has that number, or the run does not enclose the piece, or the piece is shorter than 2 x "
+        "(edition 2: 3 x) the run's unit",
         "the last end (0 if there are none) is not n",
         "first below 1, last above n or first above last; for nodes, a position outside 1 to n",
         "fewer output places (for writing a plan or a page, bytes) than the answer needs",
@@ -459,10 +463,281 @@ static void test_best_split(void) {
     }
 }
 
-/* What the calls on two words are lent of the working table, so that a place before it and one
-   after it are watched too. */
+/* What the calls on squares and on two words are lent of the working table, so that a place before
+   it and one after it are watched too. */
 static uint32_t *const scratch = work + 1;
 #define SCRATCH (WORK - 2)
+
+/* What best squares is lent for the ends, watched likewise. */
+static uint32_t *const joints = table + 1;
+#define JOINTS (TABLE_PLACES - 2)
+
+/* Words and their best splits into squares, fewest and most: the best size of each leading length, a
+   digit each and a dash for none, and the ends. */
+struct squares_case {
+    const char *word;
+    struct {
+        const char *sizes;
+        uint32_t ends[5];
+    } best[2];
+};
+
+static const struct squares_case squares_cases[] = {
+    {"", {{"0", {0}}, {"0", {0}}}},
+    {"a", {{"0-", {0}}, {"0-", {0}}}},
+    {"aa", {{"0-1", {2}}, {"0-1", {2}}}},
+    {"ab", {{"0--", {0}}, {"0--", {0}}}},
+    {"aaa", {{"0-1-", {0}}, {"0-1-", {0}}}},
+    {"aaaa", {{"0-1-1", {4}}, {"0-1-2", {2, 4}}}},
+    {"aaaaa", {{"0-1-1-", {0}}, {"0-1-2-", {0}}}},
+    {"aaaab", {{"0-1-1-", {0}}, {"0-1-2-", {0}}}},
+    {"aaaaaa", {{"0-1-1-1", {6}}, {"0-1-2-3", {2, 4, 6}}}},
+    {"aaaaaaaa", {{"0-1-1-1-1", {8}}, {"0-1-2-3-4", {2, 4, 6, 8}}}},
+    {"abab", {{"0---1", {4}}, {"0---1", {4}}}},
+    {"ababa", {{"0---1-", {0}}, {"0---1-", {0}}}},
+    {"ababab", {{"0---1--", {0}}, {"0---1--", {0}}}},
+    {"abababab", {{"0---1---1", {8}}, {"0---1---2", {4, 8}}}},
+    {"abba", {{"0----", {0}}, {"0----", {0}}}},
+    {"aabb", {{"0-1-2", {2, 4}}, {"0-1-2", {2, 4}}}},
+    {"aabbaabb", {{"0-1-2-3-1", {8}}, {"0-1-2-3-4", {2, 4, 6, 8}}}},
+    {"aabaab", {{"0-1---1", {6}}, {"0-1---1", {6}}}},
+    {"baabaa", {{"0-----1", {6}}, {"0-----1", {6}}}},
+    {"aabaabaa", {{"0-1---1-2", {2, 8}}, {"0-1---1-2", {2, 8}}}},
+    /* Example 1 of source document 002 */
+    {"abaababaabbbaabbbb",
+     {{"0-----1---1-2-3-2-3", {6, 16, 18}}, {"0-----1---1-2-3-4-5", {10, 12, 14, 16, 18}}}},
+    {"abaabaababaabaabababa",
+     {{"0-----1---2-3---1---2-", {0}}, {"0-----1---2-3---3---4-", {0}}}},
+    {"aabaabaacbbcbbcbb", {{"0-1---1-2-----3---", {0}}, {"0-1---1-2-----3---", {0}}}},
+    {"bbabaabaabbabaabaacc",
+     {{"0-1-----2---------1-2", {18, 20}}, {"0-1-----2---------1-2", {18, 20}}}},
+    {"abaaabaabababbabab",
+     {{"0-------1---2-3---2", {8, 18}}, {"0-------1---2-3---4", {8, 12, 14, 18}}}},
+    {"aaabaaabaabbaabb",
+     {{"0-1-----1-2-3-4-2", {8, 16}}, {"0-1-----1-2-3-4-5", {2, 10, 12, 14, 16}}}},
+};
+
+/* A word and what is known of its best split into squares: the best size of each leading length,
+   n + 1 of them, and the ends, none where the last of these is CEGRIDOM_NONE. */
+struct squared {
+    const uint8_t *word;
+    size_t n;
+    uint32_t choice;
+    const uint32_t *sizes, *ends;
+};
+
+/* The working table holds the sizes, 0 in the other places that the word needs, and all others are
+   untouched. */
+static int sized(const struct squared *k) {
+    size_t row = k->n + 1, needed = CEGRIDOM_WORK_PLACES(k->n);
+    int zero = 1;
+    for (size_t i = row; i < needed; i++) {
+        zero &= scratch[i] == 0;
+    }
+    return memcmp(scratch, k->sizes, row * sizeof *scratch) == 0 && zero && work[0] == GUARD &&
+           untouched(scratch + needed, WORK - 1 - needed);
+}
+
+static void squares_asked(const struct squared *k, uint32_t choice, uint32_t *ends,
+                          size_t end_places, uint32_t *lent, size_t places, uint32_t result,
+                          uint32_t size) {
+    fill(table, TABLE_PLACES);
+    fill(work, WORK);
+    reset();
+    CHECK(cegridom_best_squares(k->word, k->n, choice, ends, end_places, lent, places, &a,
+                                &index_) == result);
+    CHECK(a == size && index_ == 0);
+}
+
+static void squares_accepted(const struct squared *k, size_t end_places, size_t places) {
+    uint32_t size = k->sizes[k->n];
+    squares_asked(k, k->choice, joints, end_places, scratch, places, CEGRIDOM_ACCEPTED, size);
+    CHECK(memcmp(joints, k->ends, size * sizeof *joints) == 0);
+    CHECK(table[0] == GUARD && untouched(joints + size, TABLE_PLACES - 1 - size));
+    CHECK(sized(k));
+}
+
+/* The ends keep their table; the working table is left as by an answer after 2 and 7 alone. */
+static void squares_refused(const struct squared *k, uint32_t choice, uint32_t *ends,
+                            size_t end_places, uint32_t *lent, size_t places, uint32_t result) {
+    squares_asked(k, choice, ends, end_places, lent, places, result, 0);
+    CHECK(untouched(table, TABLE_PLACES));
+    if (result == CEGRIDOM_NO_SPLIT || result == CEGRIDOM_TOO_FEW_PLACES) {
+        CHECK(sized(k));
+    } else {
+        CHECK(untouched(work, WORK));
+    }
+}
+
+/* A refusal that comes before 9, 2 and 7, so whatever is lent. */
+static void squares_refused_first(const struct squared *k, uint32_t choice, uint32_t result) {
+    squares_refused(k, choice, NULL, 0, NULL, 0, result);
+    squares_refused(k, choice, joints, JOINTS, scratch, 0, result);
+    squares_refused(k, choice, NULL, 0, scratch, SCRATCH, result);
+    squares_refused(k, choice, joints, JOINTS, scratch, SCRATCH, result);
+}
+
+/* A word in tables with just the places that it needs, with more, and with fewer. */
+static void squares_best(const struct squared *k) {
+    size_t needed = CEGRIDOM_WORK_PLACES(k->n);
+    uint32_t size = k->sizes[k->n];
+    if (size == CEGRIDOM_NONE) {
+        /* 2 comes before 7 */
+        squares_refused(k, k->choice, NULL, 0, scratch, needed, CEGRIDOM_NO_SPLIT);
+        squares_refused(k, k->choice, joints, 0, scratch, needed + 1, CEGRIDOM_NO_SPLIT);
+        squares_refused(k, k->choice, joints, JOINTS, scratch, SCRATCH, CEGRIDOM_NO_SPLIT);
+    } else {
+        squares_accepted(k, size, needed);
+        squares_accepted(k, size + 1, needed + 1);
+        squares_accepted(k, JOINTS, SCRATCH);
+        if (size > 0) {
+            squares_refused(k, k->choice, joints, size - 1, scratch, needed,
+                            CEGRIDOM_TOO_FEW_PLACES);
+            squares_refused(k, k->choice, joints, 0, scratch, needed + 1, CEGRIDOM_TOO_FEW_PLACES);
+            squares_refused(k, k->choice, NULL, 0, scratch, SCRATCH, CEGRIDOM_TOO_FEW_PLACES);
+        }
+        /* the judge accepts it, and a square is a block of edition 1 */
+        reset();
+        CHECK(cegridom_judge_squares(k->word, k->n, k->ends, size, &a, &index_) ==
+              CEGRIDOM_ACCEPTED);
+        CHECK(a == size && index_ == 0);
+        CHECK(cegridom_judge_split(k->word, k->n, CEGRIDOM_EDITION_1, k->ends, size, &a,
+                                   &index_) == CEGRIDOM_ACCEPTED);
+    }
+    /* 9 comes before 2 and 7 */
+    squares_refused(k, k->choice, joints, JOINTS, scratch, needed - 1, CEGRIDOM_SHORT_TABLE);
+    squares_refused(k, k->choice, NULL, 0, scratch, needed - 1, CEGRIDOM_SHORT_TABLE);
+    squares_refused(k, k->choice, joints, JOINTS, NULL, 0, CEGRIDOM_SHORT_TABLE);
+    for (size_t i = 0; i < NO_CHOICES; i++) {
+        squares_refused_first(k, no_choices[i], CEGRIDOM_BAD_CHOICE);
+    }
+}
+
+static void test_best_squares(void) {
+    static uint32_t sizes[32];
+    for (size_t i = 0; i < sizeof squares_cases / sizeof *squares_cases; i++) {
+        const struct squares_case *c = &squares_cases[i];
+        size_t n = strlen(c->word);
+        for (uint32_t choice = 1; choice <= 2; choice++) {
+            const char *digits = c->best[choice - 1].sizes;
+            CHECK(strlen(digits) == n + 1);
+            for (size_t m = 0; m <= n; m++) {
+                sizes[m] = digits[m] == '-' ? CEGRIDOM_NONE : (uint32_t)(digits[m] - '0');
+            }
+            const struct squared k = {n > 0 ? (const uint8_t *)c->word : NULL, n, choice, sizes,
+                                      c->best[choice - 1].ends};
+            squares_best(&k);
+        }
+    }
+}
+
+/* Words of the limit's length and about it, and of symbols above 127. */
+static void test_long_squares(void) {
+    static uint8_t word[CEGRIDOM_LIMIT], twice[512];
+    static uint32_t sizes[CEGRIDOM_LIMIT + 1], pairs[CEGRIDOM_MOST_ENDS(CEGRIDOM_LIMIT)];
+    const uint32_t whole = CEGRIDOM_LIMIT;
+    for (uint32_t i = 0; i < CEGRIDOM_MOST_ENDS(CEGRIDOM_LIMIT); i++) {
+        pairs[i] = 2 * i + 2;
+    }
+    for (uint32_t choice = 1; choice <= 2; choice++) {
+        /* equal symbols: an even length is one square, or pairs; an odd one has no split */
+        for (uint32_t m = 0; m <= CEGRIDOM_LIMIT; m++) {
+            sizes[m] = m % 2 == 1 ? CEGRIDOM_NONE : choice == 1 && m > 0 ? 1 : m / 2;
+        }
+        const struct squared equal = {longest, CEGRIDOM_LIMIT, choice, sizes,
+                                      choice == 1 ? &whole : pairs};
+        squares_best(&equal);
+        const struct squared odd = {longest, CEGRIDOM_LIMIT - 1, choice, sizes, NULL};
+        squares_best(&odd);
+        /* a...ab twice: a square that has a b has both */
+        for (uint32_t m = 1; m <= CEGRIDOM_LIMIT; m++) {
+            word[m - 1] = m % 2048 == 0 ? 'b' : 'a';
+            sizes[m] = m < 2048 ? sizes[m] : m < CEGRIDOM_LIMIT ? CEGRIDOM_NONE : 1;
+        }
+        const struct squared half = {word, CEGRIDOM_LIMIT, choice, sizes, &whole};
+        squares_best(&half);
+        const struct squared shorter = {word, CEGRIDOM_LIMIT - 2, choice, sizes, NULL};
+        squares_best(&shorter);
+        /* every symbol, twice each */
+        for (uint32_t m = 0; m <= sizeof twice; m++) {
+            sizes[m] = m % 2 == 1 ? CEGRIDOM_NONE : m / 2;
+        }
+        for (size_t i = 0; i < sizeof twice; i++) {
+            twice[i] = (uint8_t)(i / 2);
+        }
+        const struct squared every = {twice, sizeof twice, choice, sizes, pairs};
+        squares_best(&every);
+    }
+    /* 1 comes before 8, 9 and 2 */
+    const struct squared over = {longest, CEGRIDOM_LIMIT + 1, 0, NULL, NULL};
+    for (uint32_t choice = 0; choice <= 3; choice++) {
+        squares_refused_first(&over, choice, CEGRIDOM_TOO_LONG);
+    }
+}
+
+/* Judges ends of squares. */
+static void squares_judged(const uint8_t *word, size_t n, const uint32_t *ends, size_t count,
+                           uint32_t result, uint32_t index, uint32_t squares) {
+    reset();
+    CHECK(cegridom_judge_squares(word, n, ends, count, &a, &index_) == result);
+    CHECK(a == squares && index_ == index);
+}
+
+#define SQUARES(word, result, index, squares, ...) \
+    squares_judged(word, NUMBERS(__VA_ARGS__), COUNT(__VA_ARGS__), result, index, squares)
+
+static void test_judge_squares(void) {
+    SQUARES(WORD("aaaa"), CEGRIDOM_ACCEPTED, 0, 1, 4);
+    SQUARES(WORD("aaaa"), CEGRIDOM_ACCEPTED, 0, 2, 2, 4);
+    SQUARES(WORD("aaaa"), CEGRIDOM_NOT_BLOCK, 1, 0, 1, 4);
+    SQUARES(WORD("aaaa"), CEGRIDOM_NOT_BLOCK, 1, 0, 3, 4);
+    SQUARES(WORD("aaaa"), CEGRIDOM_NOT_BLOCK, 2, 0, 2, 3, 4);
+    SQUARES(WORD("aaaa"), CEGRIDOM_BAD_END, 1, 0, 0);
+    SQUARES(WORD("aaaa"), CEGRIDOM_BAD_END, 1, 0, 5);
+    SQUARES(WORD("aaaa"), CEGRIDOM_BAD_END, 2, 0, 2, 2, 4);
+    SQUARES(WORD("aaaa"), CEGRIDOM_BAD_END, 2, 0, 2, 4294967295u);
+    SQUARES(WORD("aaaa"), CEGRIDOM_BAD_END, 3, 0, 2, 4, 4);
+    SQUARES(WORD("aaaa"), CEGRIDOM_UNFINISHED, 0, 0, 2);
+    squares_judged(WORD("aaaa"), NULL, 0, CEGRIDOM_UNFINISHED, 0, 0);
+    SQUARES(WORD("aabaabaa"), CEGRIDOM_ACCEPTED, 0, 2, 2, 8);
+    SQUARES(WORD("aabaabaa"), CEGRIDOM_ACCEPTED, 0, 2, 6, 8);
+    /* a block with a rest, or of three turns, is not a square */
+    SQUARES(WORD("aabaabaa"), CEGRIDOM_NOT_BLOCK, 1, 0, 8);
+    SQUARES(WORD("ababa"), CEGRIDOM_NOT_BLOCK, 1, 0, 5);
+    SQUARES(WORD("ababab"), CEGRIDOM_NOT_BLOCK, 1, 0, 6);
+    SQUARES(WORD("aaa"), CEGRIDOM_NOT_BLOCK, 1, 0, 3);
+    /* an even length with halves that differ, in their first or their last symbol */
+    SQUARES(WORD("ab"), CEGRIDOM_NOT_BLOCK, 1, 0, 2);
+    SQUARES(WORD("abba"), CEGRIDOM_NOT_BLOCK, 1, 0, 4);
+    SQUARES(WORD("aabbab"), CEGRIDOM_NOT_BLOCK, 2, 0, 2, 6);
+    SQUARES(WORD("aaabac"), CEGRIDOM_NOT_BLOCK, 2, 0, 2, 6);
+    /* the first end that is refused; 3 and 4 of an end before 5 of them all */
+    SQUARES(WORD("aabaabaa"), CEGRIDOM_NOT_BLOCK, 1, 0, 3, 3, 9);
+    SQUARES(WORD("aabaabaa"), CEGRIDOM_BAD_END, 2, 0, 2, 2, 7);
+    SQUARES(WORD("aabaabaa"), CEGRIDOM_BAD_END, 2, 0, 2, 9);
+    SQUARES(WORD("aabaabaa"), CEGRIDOM_NOT_BLOCK, 2, 0, 2, 4);
+    SQUARES(WORD("aabaabaa"), CEGRIDOM_UNFINISHED, 0, 0, 6);
+    SQUARES(WORD("abaababaabbbaabbbb"), CEGRIDOM_ACCEPTED, 0, 3, 6, 16, 18);
+    SQUARES(WORD("abaababaabbbaabbbb"), CEGRIDOM_ACCEPTED, 0, 4, 10, 12, 14, 18);
+    SQUARES(WORD("abaababaabbbaabbbb"), CEGRIDOM_ACCEPTED, 0, 5, 10, 12, 14, 16, 18);
+    SQUARES(WORD("abaababaabbbaabbbb"), CEGRIDOM_NOT_BLOCK, 3, 0, 6, 16, 17, 18);
+    SQUARES(WORD("\0\377\0\377\200\200"), CEGRIDOM_ACCEPTED, 0, 2, 4, 6);
+    SQUARES(WORD("\0\377\0\177"), CEGRIDOM_NOT_BLOCK, 1, 0, 4);
+    /* the empty word */
+    squares_judged(NULL, 0, NULL, 0, CEGRIDOM_ACCEPTED, 0, 0);
+    SQUARES(WORD(""), CEGRIDOM_BAD_END, 1, 0, 0);
+    SQUARES(WORD(""), CEGRIDOM_BAD_END, 1, 0, 1);
+    /* the limit, and 1 before all others */
+    squares_judged(longest, CEGRIDOM_LIMIT, NUMBERS(CEGRIDOM_LIMIT), 1, CEGRIDOM_ACCEPTED, 0, 1);
+    squares_judged(longest, CEGRIDOM_LIMIT, NUMBERS(2, CEGRIDOM_LIMIT), 2, CEGRIDOM_ACCEPTED, 0, 2);
+    squares_judged(longest, CEGRIDOM_LIMIT, NUMBERS(2, CEGRIDOM_LIMIT - 1), 2, CEGRIDOM_NOT_BLOCK,
+                   2, 0);
+    squares_judged(longest, CEGRIDOM_LIMIT, NUMBERS(CEGRIDOM_LIMIT + 1), 1, CEGRIDOM_BAD_END, 1, 0);
+    squares_judged(longest, CEGRIDOM_LIMIT + 1, NUMBERS(CEGRIDOM_LIMIT + 1), 1, CEGRIDOM_TOO_LONG,
+                   0, 0);
+    squares_judged(longest, CEGRIDOM_LIMIT + 1, NUMBERS(0), 1, CEGRIDOM_TOO_LONG, 0, 0);
+    squares_judged(longest, CEGRIDOM_LIMIT + 1, NULL, 0, CEGRIDOM_TOO_LONG, 0, 0);
+}
 
 /* The first places of what is lent are 0, and all others untouched. */
 static int cleared(size_t count) {
@@ -1120,6 +1395,9 @@ int main(void) {
     test_runs();
     test_nodes();
     test_best_split();
+    test_best_squares();
+    test_long_squares();
+    test_judge_squares();
     test_two_words();
     test_long_pairs();
     test_judge_split();

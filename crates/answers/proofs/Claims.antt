@@ -11,7 +11,7 @@ use lib.Dec.{T, eqb, eqb→eq, lit≤}
 use Rattle.answers.specs.declared.Counted.{Counted}
 use Rattle.answers.specs.declared.Counted.the-variants.{Count, Refused}
 use Rattle.answers.specs.declared.Refusal.{Refusal}
-use Rattle.answers.specs.declared.Refusal.the-variants.{TooLong, NoFactorization, BadEnd, NotRepetition, Unfinished, BadPosition, TooFewPlaces, BadChoice, ShortTable, OddPath, NotPlan, BadEdition}
+use Rattle.answers.specs.declared.Refusal.the-variants.{TooLong, NoFactorization, BadEnd, NotBlock, Unfinished, BadPosition, TooFewPlaces, BadChoice, ShortTable, OddPath, NotPlan, BadEdition}
 use Rattle.answers.specs.Outcome.{Outcome, accepted, refused, codeOf, refusal, countedView}
 
 -- how many refusals there are
@@ -24,7 +24,7 @@ withCode n i =
     cond (eqb n 1) TooLong
     (cond (eqb n 2) NoFactorization
     (cond (eqb n 3) (BadEnd i)
-    (cond (eqb n 4) (NotRepetition i)
+    (cond (eqb n 4) (NotBlock i)
     (cond (eqb n 5) Unfinished
     (cond (eqb n 6) BadPosition
     (cond (eqb n 7) TooFewPlaces (cond (eqb n 8) BadChoice (cond (eqb n 9) ShortTable (cond (eqb n 10) OddPath (cond (eqb n 11) NotPlan BadEdition))))))))))
@@ -33,7 +33,7 @@ with-code : (r : Refusal) → withCode (codeOf r .0) (codeOf r .1) ≡ r
 with-code TooLong = refl
 with-code NoFactorization = refl
 with-code (BadEnd i) = refl
-with-code (NotRepetition i) = refl
+with-code (NotBlock i) = refl
 with-code Unfinished = refl
 with-code BadPosition = refl
 with-code TooFewPlaces = refl
@@ -55,7 +55,7 @@ pub number-range : (r : Refusal) → (1 ≤ codeOf r .0) × (codeOf r .0 ≤ ref
 number-range TooLong = (lit≤ tt, lit≤ tt)
 number-range NoFactorization = (lit≤ tt, lit≤ tt)
 number-range (BadEnd i) = (lit≤ tt, lit≤ tt)
-number-range (NotRepetition i) = (lit≤ tt, lit≤ tt)
+number-range (NotBlock i) = (lit≤ tt, lit≤ tt)
 number-range Unfinished = (lit≤ tt, lit≤ tt)
 number-range BadPosition = (lit≤ tt, lit≤ tt)
 number-range TooFewPlaces = (lit≤ tt, lit≤ tt)
@@ -88,7 +88,7 @@ pub index-zero : (r : Refusal) → (codeOf r .0 ≡ 3 → ⊥) → (codeOf r .0 
 index-zero TooLong a b = refl
 index-zero NoFactorization a b = refl
 index-zero (BadEnd i) a b = absurd (a refl)
-index-zero (NotRepetition i) a b = absurd (b refl)
+index-zero (NotBlock i) a b = absurd (b refl)
 index-zero Unfinished a b = refl
 index-zero BadPosition a b = refl
 index-zero TooFewPlaces a b = refl

@@ -6,7 +6,7 @@ use Rattle.answers.specs.declared.Code.{Code}
 use Rattle.answers.specs.declared.Counted.{Counted}
 use Rattle.answers.specs.declared.Counted.the-variants.{Count, Refused}
 use Rattle.answers.specs.declared.Refusal.{Refusal}
-use Rattle.answers.specs.declared.Refusal.the-variants.{TooLong, NoFactorization, BadEnd, NotRepetition, Unfinished, BadPosition, TooFewPlaces, BadChoice, ShortTable, OddPath, NotPlan, BadEdition}
+use Rattle.answers.specs.declared.Refusal.the-variants.{TooLong, NoFactorization, BadEnd, NotBlock, Unfinished, BadPosition, TooFewPlaces, BadChoice, ShortTable, OddPath, NotPlan, BadEdition}
 
 -- "The limit is n = 4,096."
 abbrev pub limit : ℕ
@@ -22,7 +22,7 @@ abbrev pub codeOf : Refusal → Code
 codeOf TooLong = record { 0 = 1; 1 = 0 }
 codeOf NoFactorization = record { 0 = 2; 1 = 0 }
 codeOf (BadEnd i) = record { 0 = 3; 1 = i }
-codeOf (NotRepetition i) = record { 0 = 4; 1 = i }
+codeOf (NotBlock i) = record { 0 = 4; 1 = i }
 codeOf Unfinished = record { 0 = 5; 1 = 0 }
 codeOf BadPosition = record { 0 = 6; 1 = 0 }
 codeOf TooFewPlaces = record { 0 = 7; 1 = 0 }

@@ -13,9 +13,9 @@ pub enum Refusal {
     NoFactorization,
     // 3, with the index of the end: an end not above the one before it, or above the length
     BadEnd(u32),
-    // 4, with the index of the end: the piece up to this end is not a repetition (block), or not
-    // one of the run that a path names
-    NotRepetition(u32),
+    // 4, with the index of the end: the piece up to this end is not a block: not a repetition, not
+    // one of the run that a path names, or not a square
+    NotBlock(u32),
     // 5: the last end is not the length
     Unfinished,
     // 6: positions outside the word, or in the wrong order
@@ -51,7 +51,7 @@ pub fn coded(r: Refusal) -> Code
         Refusal::TooLong => Code(1, 0),
         Refusal::NoFactorization => Code(2, 0),
         Refusal::BadEnd(i) => Code(3, i),
-        Refusal::NotRepetition(i) => Code(4, i),
+        Refusal::NotBlock(i) => Code(4, i),
         Refusal::Unfinished => Code(5, 0),
         Refusal::BadPosition => Code(6, 0),
         Refusal::TooFewPlaces => Code(7, 0),

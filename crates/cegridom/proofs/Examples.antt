@@ -1,15 +1,20 @@
 -- What the exported functions give for the documents' answers, computed. Assumes nothing.
 use mathlib.Core.Path.{_≡_, refl}
 use mathlib.Core.List.{[], _∷_}
+use lib.ListN.{replicate}
 use Rattle.periods.specs.Period.{smallestPeriod, repetition?}
 use Rattle.periods.specs.Edition.{badEdition?, turnsOf}
 use Rattle.periods.specs.Part.{partOutcome, description}
 use Rattle.factors.specs.Factorization.{cell, bestEnds}
 use Rattle.factors.specs.Verdict.{verdict}
 use Rattle.repetitions.specs.Judge.{splitOutcome}
+use Rattle.periods.specs.Square.{square?}
+use Rattle.factorizer.specs.Best.{chosenOutcome}
+use Rattle.squares.specs.BestSquares.{squaresOutcome}
+use Rattle.squares.specs.JudgeSquares.{judgeOutcome}
 use Rattle.comparison.specs.Calls.{compared, whichOutcome}
 use Rattle.cegridom.specs.Export.{resultOf, indexOf, valueOf, version}
-use Rattle.periods.proofs.Words.{word-aabaabaa, word-ab, word-ababa}
+use Rattle.periods.proofs.Words.{word-aaaa, word-aabaabaa, word-ab, word-ababa}
 
 -- "ababa * | 5 (unit 2, turns 2, rest 1)": accepted, with four values
 pub part-result : resultOf (partOutcome word-ababa 1 1 5 5) ∷ indexOf (partOutcome word-ababa 1 1 5 5) ∷ [] ≡ 0 ∷ 0 ∷ []
@@ -44,6 +49,15 @@ pub which-neither : resultOf (whichOutcome word-ab word-ab 1 12) ∷ valueOf 0 (
 unfolding compared cell bestEnds repetition? smallestPeriod badEdition? turnsOf
 which-neither = refl
 
--- 0.6
-pub version-is-0-6 : version ≡ 6
-version-is-0-6 = refl
+-- "aaaa has fewest 4, most 2,4": the size; "4 is there a piece that is not a square", with its index
+pub squares-result : resultOf (squaresOutcome word-aaaa 2 (replicate 2 7) (replicate 20 9)) ∷ valueOf 0 (squaresOutcome word-aaaa 2 (replicate 2 7) (replicate 20 9)) ∷ indexOf (squaresOutcome word-aaaa 2 (replicate 2 7) (replicate 20 9)) ∷ [] ≡ 0 ∷ 2 ∷ 0 ∷ []
+unfolding squaresOutcome chosenOutcome cell square?
+squares-result = refl
+
+pub squares-judged : resultOf (judgeOutcome word-aaaa (2 ∷ 3 ∷ [])) ∷ valueOf 0 (judgeOutcome word-aaaa (2 ∷ 3 ∷ [])) ∷ indexOf (judgeOutcome word-aaaa (2 ∷ 3 ∷ [])) ∷ [] ≡ 4 ∷ 0 ∷ 2 ∷ []
+unfolding judgeOutcome verdict square?
+squares-judged = refl
+
+-- 0.7
+pub version-is-0-7 : version ≡ 7
+version-is-0-7 = refl

@@ -10,8 +10,11 @@ use Rattle.runs.specs.Calls.{RunsMeaning}
 use Rattle.nodes.specs.Calls.{NodesMeaning}
 use Rattle.factors.specs.Factorization.{Choice}
 use Rattle.factors.specs.Verdict.{VerdictMeaning}
-use Rattle.repetitions.specs.BestSplit.{Answered, BestMeaning}
+use Rattle.factorizer.specs.Best.{Answered, Chosen}
+use Rattle.repetitions.specs.BestSplit.{BestMeaning}
 use Rattle.repetitions.specs.Judge.{SplitMeaning}
+use Rattle.squares.specs.BestSquares.{SquaresMeaning}
+use Rattle.squares.specs.JudgeSquares.{JudgeMeaning}
 use Rattle.comparison.specs.Calls.{Compared, WhichMeaning}
 use Rattle.paths.specs.Calls.{PathMeaning, PathJudgedMeaning}
 use Rattle.pages.specs.Page.{PageMeaning}
@@ -41,17 +44,24 @@ nodes-values w edition x t o u (NodesMeaning.outside a i b e k) = known 1 o (ref
 nodes-values w edition x t o u (NodesMeaning.too-few a i b rows l ns m n e k) = known 1 o (refused 7 0) e (lit≤ tt)
 nodes-values w edition x t o u (NodesMeaning.listed a i b rows l ns m n e k) = known 1 o _ e refl
 
-answered-values : (turns : ℕ) (c : Choice) (w e : List ℕ) (v : ℕ) (o : Outcome) (x : List ℕ) → Answered turns c w e v o x → HasValues 1 o
-answered-values turns c w e v o x (Answered.no-split a p k) = known 1 o (refused 2 0) p (lit≤ tt)
-answered-values turns c w e v o x (Answered.too-few es a b p k) = known 1 o (refused 7 0) p (lit≤ tt)
-answered-values turns c w e v o x (Answered.written es a b p k) = known 1 o _ p refl
+answered-values : (P : List ℕ → Type 0) (c : Choice) (w e : List ℕ) (v : ℕ) (o : Outcome) (x : List ℕ) → Answered P c w e v o x → HasValues 1 o
+answered-values P c w e v o x (Answered.no-split a p k) = known 1 o (refused 2 0) p (lit≤ tt)
+answered-values P c w e v o x (Answered.too-few es a b p k) = known 1 o (refused 7 0) p (lit≤ tt)
+answered-values P c w e v o x (Answered.written es a b p k) = known 1 o _ p refl
+
+chosen-values : (P : List ℕ → Type 0) (w : List ℕ) (choice : ℕ) (e t : List ℕ) (o : Outcome) (x y : List ℕ) → Chosen P w choice e t o x y → HasValues 1 o
+chosen-values P w choice e t o x y (Chosen.bad-choice b p k l) = known 1 o (refused 8 0) p (lit≤ tt)
+chosen-values P w choice e t o x y (Chosen.short-table b d p k l) = known 1 o (refused 9 0) p (lit≤ tt)
+chosen-values P w choice e t o x y (Chosen.settled b d s) = answered-values _ _ w e _ o x (s .answered)
 
 pub best-values : (w : List ℕ) (edition choice : ℕ) (e t : List ℕ) (o : Outcome) (x y : List ℕ) → BestMeaning w edition choice e t o x y → HasValues 1 o
 best-values w edition choice e t o x y (BestMeaning.too-long a p k l) = known 1 o (refused 1 0) p (lit≤ tt)
 best-values w edition choice e t o x y (BestMeaning.bad-edition a i p k l) = known 1 o (refused 12 0) p (lit≤ tt)
-best-values w edition choice e t o x y (BestMeaning.bad-choice a i b p k l) = known 1 o (refused 8 0) p (lit≤ tt)
-best-values w edition choice e t o x y (BestMeaning.short-table a i b d p k l) = known 1 o (refused 9 0) p (lit≤ tt)
-best-values w edition choice e t o x y (BestMeaning.settled a i b d s) = answered-values _ _ w e _ o x (s .answered)
+best-values w edition choice e t o x y (BestMeaning.chosen a i c) = chosen-values _ w choice e t o x y c
+
+pub squares-values : (w : List ℕ) (choice : ℕ) (e t : List ℕ) (o : Outcome) (x y : List ℕ) → SquaresMeaning w choice e t o x y → HasValues 1 o
+squares-values w choice e t o x y (SquaresMeaning.too-long a p k l) = known 1 o (refused 1 0) p (lit≤ tt)
+squares-values w choice e t o x y (SquaresMeaning.chosen a c) = chosen-values _ w choice e t o x y c
 
 compared-values : (k : ℕ) (a b : List ℕ) (o : Outcome) → Compared k a b o → HasValues 1 o
 compared-values k a b o (Compared.neither m n e) = known 1 o (refused 2 0) e (lit≤ tt)
@@ -74,6 +84,10 @@ pub split-values : (w : List ℕ) (edition : ℕ) (ends : List ℕ) (o : Outcome
 split-values w edition ends o (SplitMeaning.too-long a e) = known 1 o (refused 1 0) e (lit≤ tt)
 split-values w edition ends o (SplitMeaning.bad-edition a i e) = known 1 o (refused 12 0) e (lit≤ tt)
 split-values w edition ends o (SplitMeaning.judged a i j) = verdict-values _ _ ends o (j .verdict-on)
+
+pub judge-squares-values : (w ends : List ℕ) (o : Outcome) → JudgeMeaning w ends o → HasValues 1 o
+judge-squares-values w ends o (JudgeMeaning.too-long a e) = known 1 o (refused 1 0) e (lit≤ tt)
+judge-squares-values w ends o (JudgeMeaning.judged a j) = verdict-values _ _ ends o (j .verdict-on)
 
 pub path-values : (w : List ℕ) (edition : ℕ) (ends t : List ℕ) (o : Outcome) (u : List ℕ) → PathMeaning w edition ends t o u → HasValues 1 o
 path-values w edition ends t o u (PathMeaning.refused-split x i s e k) = known 1 o (refused x i) e (split-values w edition ends (refused x i) s)

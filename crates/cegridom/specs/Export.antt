@@ -5,6 +5,7 @@ use lib.ListN.{length, getD}
 use Rattle.answers.specs.Outcome.{Outcome, accepted, refused}
 use Rattle.periods.specs.Part.{partOutcome, PartMeaning}
 use Rattle.repetitions.specs.BestSplit.{bestOutcome, BestMeaning}
+use Rattle.squares.specs.BestSquares.{squaresOutcome, SquaresMeaning}
 use Rattle.comparison.specs.Calls.{whichOutcome, WhichMeaning}
 use Rattle.paths.specs.Calls.{pathOutcome, PathMeaning}
 use Rattle.pages.specs.Page.{pageOutcome, PageMeaning}
@@ -24,12 +25,15 @@ abbrev pub valueOf : ℕ → Outcome → ℕ
 valueOf k (accepted v) = getD v k 0
 valueOf k (refused n i) = 0
 
--- the meanings of the part call, of best split, of which first, of path of a split and of write a page, of the outcome that is handed over
+-- the meanings of the part call, of best split, of best squares, of which first, of path of a split and of write a page, of the outcome that is handed over
 abbrev pub PartHanded : List ℕ → ℕ → ℕ → ℕ → List ℕ → List ℕ → Type 0
 PartHanded w edition first last t x = PartMeaning w edition first last t (partOutcome w edition first last (length t)) x
 
 abbrev pub BestHanded : List ℕ → ℕ → ℕ → List ℕ → List ℕ → List ℕ → List ℕ → Type 0
 BestHanded w edition choice e t x y = BestMeaning w edition choice e t (bestOutcome w edition choice e t) x y
+
+abbrev pub SquaresHanded : List ℕ → ℕ → List ℕ → List ℕ → List ℕ → List ℕ → Type 0
+SquaresHanded w choice e t x y = SquaresMeaning w choice e t (squaresOutcome w choice e t) x y
 
 abbrev pub WhichHanded : List ℕ → List ℕ → ℕ → List ℕ → List ℕ → Type 0
 WhichHanded a b edition t y = WhichMeaning a b edition t (whichOutcome a b edition (length t)) y
@@ -40,6 +44,6 @@ PathHanded w edition ends t u = PathMeaning w edition ends t (pathOutcome w edit
 abbrev pub PageHanded : List ℕ → ℕ → List ℕ → List ℕ → List ℕ → Type 0
 PageHanded w edition ends t u = PageMeaning w edition ends t (pageOutcome w edition ends (length t)) u
 
--- 1,000 × the major number + the minor one, of version 0.6
+-- 1,000 × the major number + the minor one, of version 0.7
 abbrev pub version : ℕ
-version = 6
+version = 7

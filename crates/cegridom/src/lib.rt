@@ -13,18 +13,20 @@ ghost use Rattle.runs.specs.Calls.{runsOutcome, runsTable, RunsMeaning};
 ghost use Rattle.nodes.specs.Calls.{nodesOutcome, nodesTable, NodesMeaning};
 ghost use Rattle.repetitions.specs.BestSplit.{bestOutcome, bestEndsTable, bestWork};
 ghost use Rattle.repetitions.specs.Judge.{splitOutcome, SplitMeaning};
+ghost use Rattle.squares.specs.BestSquares.{squaresOutcome, squaresEnds, squaresWork};
+ghost use Rattle.squares.specs.JudgeSquares.{judgeOutcome, JudgeMeaning};
 ghost use Rattle.comparison.specs.Calls.{whichOutcome, whichWork, wordIn, lengthIn, firstWhich, firstLength, FirstMeaning};
 ghost use Rattle.paths.specs.Calls.{pathOutcome, pathTable, pathJudgedOutcome, PathJudgedMeaning};
 ghost use Rattle.pages.specs.Page.{pageOutcome, pageTable};
 ghost use Rattle.plans.specs.Calls.{planView, writeOutcome, writeTable, WriteMeaning, readOutcome, readTable, ReadMeaning};
-ghost use Rattle.cegridom.specs.Export.{resultOf, indexOf, valueOf, PartHanded, BestHanded, WhichHanded, PathHanded, PageHanded, version};
+ghost use Rattle.cegridom.specs.Export.{resultOf, indexOf, valueOf, PartHanded, BestHanded, SquaresHanded, WhichHanded, PathHanded, PageHanded, version};
 use answers::Counted;
 use comparison::Chosen;
 use periods::PartAnswer;
 use plans::PlanAnswer;
 
 // The version of this interface, 1,000 × major + minor.
-pub const VERSION: u32 = 6;
+pub const VERSION: u32 = 7;
 
 // Takes an answer that gives one number apart.
 fn hand_over(answer: Counted, count: &mut u32, index: &mut u32) -> u32
@@ -225,6 +227,28 @@ pub extern "C" fn cegridom_best_split(
     hand_over(answer, size, index)
 }
 
+// Best squares: the ends of the best factorization into squares and its size; choice 1 is fewest, 2
+// is most. Refusals: 1, 8, 9, 2, 7.
+#[no_mangle]
+pub extern "C" fn cegridom_best_squares(
+    w: &[u8],
+    choice: u32,
+    ends: &mut [u32],
+    work: &mut [u32],
+    size: &mut u32,
+    index: &mut u32,
+) -> u32
+    ensures result { λ r. ⌜ r ≡ resultOf (squaresOutcome (now (w .entry)) choice (now (ends .entry)) (now (work .entry))) ⌝ }
+    ensures size { λ _. ⌜ now (size .exit) ≡ valueOf 0 (squaresOutcome (now (w .entry)) choice (now (ends .entry)) (now (work .entry))) ⌝ }
+    ensures index { λ _. ⌜ now (index .exit) ≡ indexOf (squaresOutcome (now (w .entry)) choice (now (ends .entry)) (now (work .entry))) ⌝ }
+    ensures written { λ _. ⌜ now (ends .exit) ≡ squaresEnds (now (w .entry)) choice (now (ends .entry)) (now (work .entry)) ⌝ }
+    ensures worked { λ _. ⌜ now (work .exit) ≡ squaresWork (now (w .entry)) choice (now (work .entry)) ⌝ }
+    ensures meaning { λ _. ⌜ SquaresHanded (now (w .entry)) choice (now (ends .entry)) (now (work .entry)) (now (ends .exit)) (now (work .exit)) ⌝ }
+{
+    let answer = squares::best_squares(w, choice, ends, work);
+    hand_over(answer, size, index)
+}
+
 // Which first: 1 or 2 for the word that has fewer blocks in its fewest split; the first wins a tie.
 // Refusals: 1, 12, 9, 2.
 #[no_mangle]
@@ -282,6 +306,23 @@ pub extern "C" fn cegridom_judge_split(
     ensures meaning { λ _. ⌜ SplitMeaning (now (w .entry)) edition (now (ends .entry)) (splitOutcome (now (w .entry)) edition (now (ends .entry))) ⌝ }
 {
     let answer = repetitions::judge_split(w, edition, ends);
+    hand_over(answer, blocks, index)
+}
+
+// Judge squares: its number of squares. Refusals: 1; then for each end in turn 3, 4; then 5.
+#[no_mangle]
+pub extern "C" fn cegridom_judge_squares(
+    w: &[u8],
+    ends: &[u32],
+    blocks: &mut u32,
+    index: &mut u32,
+) -> u32
+    ensures result { λ r. ⌜ r ≡ resultOf (judgeOutcome (now (w .entry)) (now (ends .entry))) ⌝ }
+    ensures blocks { λ _. ⌜ now (blocks .exit) ≡ valueOf 0 (judgeOutcome (now (w .entry)) (now (ends .entry))) ⌝ }
+    ensures index { λ _. ⌜ now (index .exit) ≡ indexOf (judgeOutcome (now (w .entry)) (now (ends .entry))) ⌝ }
+    ensures meaning { λ _. ⌜ JudgeMeaning (now (w .entry)) (now (ends .entry)) (judgeOutcome (now (w .entry)) (now (ends .entry))) ⌝ }
+{
+    let answer = squares::judge_squares(w, ends);
     hand_over(answer, blocks, index)
 }
 

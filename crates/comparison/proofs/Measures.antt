@@ -18,8 +18,8 @@ use Rattle.factors.proofs.Optimal.{size-bound, no-ends}
 use Rattle.factors.proofs.TableLaws.{length-previous, previous-agrees, ends-back}
 use Rattle.repetitions.specs.Block.{block?}
 use Rattle.repetitions.specs.BestSplit.{lastCell}
-use Rattle.repetitions.proofs.FillLaws.{zeros}
-use Rattle.repetitions.proofs.BestClaims.{filled-size, filled-row, filled-long, filled-past}
+use Rattle.factorizer.proofs.FillLaws.{zeros}
+use Rattle.factorizer.proofs.Filled.{filled-size, filled-row, filled-long, filled-past}
 use Rattle.comparison.specs.declared.Chosen.{Chosen}
 use Rattle.comparison.specs.Measure.{fewestSize, firstEnd, endIn, chosenBy}
 use Rattle.comparison.specs.Calls.{longer, chosen}

@@ -11,7 +11,7 @@ use Rattle.factors.specs.Table.{none, sizeIn, endsBack}
 use Rattle.factors.specs.Verdict.{endOf}
 use Rattle.repetitions.specs.Block.{block?}
 use Rattle.repetitions.specs.BestSplit.{lastCell}
-use Rattle.repetitions.specs.Fill.{rowOne}
+use Rattle.factorizer.specs.Fill.{rowOne}
 use Rattle.comparison.specs.declared.Chosen.{Chosen}
 use Rattle.comparison.specs.declared.Chosen.the-variants.{First, Second, Refused}
 

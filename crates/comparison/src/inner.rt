@@ -6,8 +6,8 @@ ghost use Rattle.periods.specs.Period.{anyPeriod};
 ghost use Rattle.periods.specs.Edition.{Edition, turnsOf};
 ghost use Rattle.factors.specs.Factorization.{smallest};
 ghost use Rattle.factors.specs.Table.{filled};
+ghost use Rattle.factorizer.specs.Fill.{Workable, Readable};
 ghost use Rattle.repetitions.specs.Block.{block?};
-ghost use Rattle.repetitions.specs.Fill.{Workable, Readable};
 ghost use Rattle.comparison.specs.Calls.{compared, whichWork};
 ghost use Rattle.comparison.specs.Measure.{fewestSize, firstEnd, endIn, chosenBy};
 use super::Chosen;
@@ -42,7 +42,7 @@ fn measure(w: &[u8], edition: u32, work: &mut [u32]) -> Measured
     ensures { λ r. ⌜ (r .size ≡ fewestSize (turnsOf edition) (now (w .entry))) × (r .end ≡ firstEnd (turnsOf edition) (now (w .entry))) ⌝ }
     ensures { λ _. ⌜ now (work .exit) ≡ filled smallest (block? anyPeriod (turnsOf edition) (now (w .entry))) (length (now (w .entry))) (now (work .entry)) ⌝ }
 {
-    repetitions::inner::fill(w, edition, factors::FEWEST, work);
+    factorizer::inner::fill(w, factorizer::rule_of(edition), factors::FEWEST, work);
     read_off(work, w.len())
 }
 

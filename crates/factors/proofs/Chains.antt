@@ -4,8 +4,9 @@
 use mathlib.Core.Path.{_≡_, refl, ap, _∙_}
 use mathlib.Core.Logic.{_⊎_, inl, inr}
 use mathlib.Core.List.{List, [], _∷_, _++_, reverse, reverse-append}
-use Prim.Native.Nat.{ℕ, suc, _+_, _-_, _≤_, _<_}
+use Prim.Native.Nat.{ℕ, suc, _+_, _-_, _*_, _≤_, _<_}
 use native.Mathlib.Omega.{arith}
+use native.Mathlib.Nat.{suc-mul}
 use lib.ListN.{length, length-append}
 use Rattle.factors.specs.Factorization.{Chain, Factorization, size, blockLengths}
 
@@ -50,11 +51,15 @@ module _ (B : ℕ → ℕ → Type 0) where
   pub lengths-back : (es : List ℕ) (j m : ℕ) → Factorization B j es → reverse (blockLengths 0 (es ++ m ∷ [])) ≡ (m - j) ∷ reverse (blockLengths 0 es)
   lengths-back es j m h = ap reverse (lengths-snoc 0 es j m h) ∙ reverse-append (blockLengths 0 es) ((m - j) ∷ [])
 
+  -- where each block takes d symbols or more, so many blocks take d times as many
+  pub chain-long : (d : ℕ) → ((i j : ℕ) → B i j → i + d ≤ j) → (i : ℕ) (es : List ℕ) (m : ℕ) → Chain B i es m → i + size es * d ≤ m
+  chain-long d long i [] m h = omega arith
+  chain-long d long i (e ∷ es) m h = omega (arith, suc-mul (size es) d, long i e (h .0), chain-long d long e es m (h .1))
+
   module _ (up : (i j : ℕ) → B i j → i < j) where
     -- each block takes a symbol or more
     pub chain-size : (i : ℕ) (es : List ℕ) (m : ℕ) → Chain B i es m → i + size es ≤ m
-    chain-size i [] m h = omega arith
-    chain-size i (e ∷ es) m h = omega (arith, up i e (h .0), chain-size e es m (h .1))
+    chain-size i es m h = omega (arith, chain-long 1 (λ a b k. omega (arith, up a b k)) i es m h)
 
     pub chain-le : (i : ℕ) (es : List ℕ) (m : ℕ) → Chain B i es m → i ≤ m
     chain-le i es m h = omega (arith, chain-size i es m h)

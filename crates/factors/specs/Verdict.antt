@@ -5,7 +5,7 @@ use mathlib.Core.List.{List, [], _∷_}
 use Prim.Native.Nat.{ℕ, zero, suc, _≤_, _<_}
 use lib.Dec.{leb, ltb, eqb}
 use lib.ListN.{length, getD}
-use Rattle.answers.specs.declared.Refusal.the-variants.{BadEnd, NotRepetition, Unfinished}
+use Rattle.answers.specs.declared.Refusal.the-variants.{BadEnd, NotBlock, Unfinished}
 use Rattle.answers.specs.Outcome.{Outcome, accepted, refused, refusal}
 
 -- A test of blocks is told the block's number from 1, the boundary that it starts after and its end.
@@ -20,7 +20,7 @@ abbrev pub verdictFrom : (ℕ → ℕ → ℕ → Bool) → ℕ → ℕ → ℕ 
 verdictFrom block? n k i [] = cond (eqb i n) (accepted (k ∷ [])) (refusal Unfinished)
 verdictFrom block? n k i (e ∷ es) =
     cond (badEnd? n i e) (refusal (BadEnd (suc k)))
-    (cond (block? (suc k) i e) (verdictFrom block? n (suc k) e es) (refusal (NotRepetition (suc k))))
+    (cond (block? (suc k) i e) (verdictFrom block? n (suc k) e es) (refusal (NotBlock (suc k))))
 
 unfoldable pub verdict : (ℕ → ℕ → ℕ → Bool) → ℕ → List ℕ → Outcome
 verdict block? n ends = verdictFrom block? n 0 0 ends

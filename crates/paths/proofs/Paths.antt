@@ -7,13 +7,14 @@ use mathlib.Core.List.{List, [], _∷_}
 use Prim.Native.Nat.{ℕ, _+_, _≤_, _<_}
 use native.Mathlib.Omega.{arith}
 use lib.ListN.{length, take}
-use Rattle.periods.specs.Period.{anyPeriod}
+use Rattle.periods.specs.Period.{anyPeriod, Repetition, repetition?}
 use Rattle.periods.specs.Edition.{turnsOf}
 use Rattle.periods.proofs.Editions.{two-turns}
 use Rattle.factors.specs.Factorization.{Factorization}
 use Rattle.repetitions.specs.Block.{Block}
 use Rattle.paths.specs.Graph.{Node, black, white, Exists, Walk, Path, total, drops, encoding, GoTogether, endsOfPairs, Segments}
-use Rattle.repetitions.proofs.Blocks.{prefix-factorizations}
+use Rattle.factorizer.proofs.Pieces.{prefix-factorizations}
+use Rattle.factorizer.proofs.Rules.{repetition-decides}
 use Rattle.paths.proofs.Encodings.{white-black, encoding-ends, encoded, encodes, encoding-one-path, segments-chain, chain-segments, segments-same}
 
 -- CLAIM: paths of length t, and factorizations of the prefix of length t as a word of its own
@@ -74,9 +75,9 @@ module _ (allowed : ℕ → Bool) (k : ℕ) (w : List ℕ) where
 
     pub one-to-one : t ≤ length w → OneToOne allowed k w t
     one-to-one h = record {
-      factorization = λ xs v. prefix-factorizations allowed k w t (drops (black 0) xs) h .1 (path-chain xs v);
+      factorization = λ xs v. prefix-factorizations (Repetition allowed k) (repetition? allowed k) (repetition-decides allowed k) w t (drops (black 0) xs) h .1 (path-chain xs v);
       one-factorization = λ xs es fs a b. sym a ∙ b;
-      path = λ es c. chain-path es (prefix-factorizations allowed k w t es h .0 c);
+      path = λ es c. chain-path es (prefix-factorizations (Repetition allowed k) (repetition? allowed k) (repetition-decides allowed k) w t es h .0 c);
       one-path = same-path;
       weighs = λ xs v. walk-weighs t xs .0 0 v;
     }

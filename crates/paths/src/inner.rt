@@ -208,7 +208,7 @@ pub(crate) fn follow(w: &[u8], turns: usize, numbers: &[u32]) -> Counted
         }
         let found = run_with(w, &counted, run, &mut units, &mut rows);
         if !lies_in(found, turns, before, end) {
-            return Counted::Refused(Refusal::NotRepetition(number));
+            return Counted::Refused(Refusal::NotBlock(number));
         }
         before = end;
         k += 1;

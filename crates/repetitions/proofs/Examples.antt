@@ -4,18 +4,18 @@ use mathlib.Core.Path.{_≡_, refl}
 use mathlib.Core.Logic.{inl, inr}
 use mathlib.Core.Bool.{Bool, true, false, _&&_}
 use mathlib.Core.List.{List, [], _∷_, _++_}
-use Prim.Native.Nat.{ℕ, _+_, _-_, _*_}
+use Prim.Native.Nat.{ℕ}
 use native.Mathlib.Omega.{arith}
 use lib.Dec.{T}
-use lib.ListN.{length, replicate}
-use Rattle.laws.proofs.Tests.{and-left, and-right}
+use lib.ListN.{replicate}
 use Rattle.answers.specs.Outcome.{Outcome, accepted, refused}
-use Rattle.answers.proofs.Same.{same?, sameOutcome?, same-means, same-outcome-means}
 use Rattle.periods.specs.Period.{smallestPeriod, repetition?, anyPeriod}
 use Rattle.periods.specs.Edition.{badEdition?, turnsOf}
 use Rattle.factors.specs.Factorization.{LongerFromEnd, cell, bestEnds}
 use Rattle.factors.specs.Table.{none, sizes}
 use Rattle.factors.specs.Verdict.{verdict}
+use Rattle.factorizer.specs.Best.{chosenOutcome, chosenEnds, chosenWork}
+use Rattle.factorizer.proofs.Cases.{lentEnds, lentWork, Case, Holds, holds?, holds-means}
 use Rattle.repetitions.specs.Block.{block?}
 use Rattle.repetitions.specs.BestSplit.{bestOutcome, bestEndsTable, bestWork}
 use Rattle.repetitions.specs.Judge.{splitOutcome}
@@ -23,67 +23,34 @@ use Rattle.periods.proofs.Words.{word-a, word-aa, word-aaa, word-aaaa, word-aaa
 
 -- ---- the starred cases
 
--- a sequence, an edition, a choice, and what is expected: the answer, the first places of the ends' table, the best size of each prefix length
-pub record Case : Type 0 where
-  pub word : List ℕ
+-- an edition, a choice, and what is expected of a word
+pub record Told : Type 0 where
   pub edition : ℕ
   pub choice : ℕ
-  pub answer : Outcome
-  pub ends : List ℕ
-  pub best : List ℕ
+  pub expected : Case
 
-abbrev case : ℕ → List ℕ → ℕ → Outcome → List ℕ → List ℕ → Case
-case edition w choice answer ends best = record { word = w; edition = edition; choice = choice; answer = answer; ends = ends; best = best }
+abbrev case : ℕ → List ℕ → ℕ → Outcome → List ℕ → List ℕ → Told
+case edition w choice answer ends best = record { edition = edition; choice = choice; expected = record { word = w; answer = answer; ends = ends; best = best } }
 
--- the tables are lent with other numbers in them: as many places for ends as there are symbols and one more, and one place more than the working table needs
-abbrev lentEnds : List ℕ → List ℕ
-lentEnds w = replicate (length w + 1) 7
+-- the three definitions give it
+abbrev pub splits? : Told → Bool
+splits? x =
+    let w = x .expected .word in
+    holds? (x .expected) (bestOutcome w (x .edition) (x .choice) (lentEnds w) (lentWork w)) (bestEndsTable w (x .edition) (x .choice) (lentEnds w) (lentWork w))
+    (bestWork w (x .edition) (x .choice) (lentWork w))
 
-abbrev lentWork : List ℕ → List ℕ
-lentWork w = replicate (4 * (length w + 1)) 9 ++ (9 ∷ [])
-
--- the ends, and the other places as they were
-abbrev endsLeft : List ℕ → List ℕ → List ℕ
-endsLeft w ends = ends ++ replicate (length w + 1 - length ends) 7
-
--- the sizes, zeros, and what follows as it was
-abbrev workLeft : List ℕ → List ℕ → List ℕ
-workLeft w best = best ++ (replicate (3 * (length w + 1)) 0 ++ (9 ∷ []))
-
--- the three definitions give what is expected
-abbrev pub Holds : Case → Type 0
-Holds x =
-    (bestOutcome (x .word) (x .edition) (x .choice) (lentEnds (x .word)) (lentWork (x .word)) ≡ x .answer)
-    × (bestEndsTable (x .word) (x .edition) (x .choice) (lentEnds (x .word)) (lentWork (x .word)) ≡ endsLeft (x .word) (x .ends))
-    × (bestWork (x .word) (x .edition) (x .choice) (lentWork (x .word)) ≡ workLeft (x .word) (x .best))
-
--- the same as a test
-abbrev pub holds? : Case → Bool
-holds? x =
-    sameOutcome? (bestOutcome (x .word) (x .edition) (x .choice) (lentEnds (x .word)) (lentWork (x .word))) (x .answer)
-    && (same? (bestEndsTable (x .word) (x .edition) (x .choice) (lentEnds (x .word)) (lentWork (x .word))) (endsLeft (x .word) (x .ends))
-    && same? (bestWork (x .word) (x .edition) (x .choice) (lentWork (x .word))) (workLeft (x .word) (x .best)))
-
-abbrev pub all : List Case → Bool
+abbrev pub all : List Told → Bool
 all [] = true
-all (x ∷ xs) = holds? x && all xs
+all (x ∷ xs) = splits? x && all xs
 
 -- a case that passes the test holds
-pub holds-means : (x : Case) → T (holds? x) → Holds x
-holds-means x h =
-    let o = bestOutcome (x .word) (x .edition) (x .choice) (lentEnds (x .word)) (lentWork (x .word)) in
-    let e = bestEndsTable (x .word) (x .edition) (x .choice) (lentEnds (x .word)) (lentWork (x .word)) in
-    let t = bestWork (x .word) (x .edition) (x .choice) (lentWork (x .word)) in
-    let ends = same? e (endsLeft (x .word) (x .ends)) in
-    let work = same? t (workLeft (x .word) (x .best)) in
-    let rest = and-right (sameOutcome? o (x .answer)) (ends && work) h in (
-      same-outcome-means o (x .answer) (and-left (sameOutcome? o (x .answer)) (ends && work) h),
-      same-means e (endsLeft (x .word) (x .ends)) (and-left ends work rest),
-      same-means t (workLeft (x .word) (x .best)) (and-right ends work rest),
-    )
+pub splits-means : (x : Told) → T (splits? x) → let w = x .expected .word in
+    Holds (x .expected) (bestOutcome w (x .edition) (x .choice) (lentEnds w) (lentWork w)) (bestEndsTable w (x .edition) (x .choice) (lentEnds w) (lentWork w))
+    (bestWork w (x .edition) (x .choice) (lentWork w))
+splits-means x h = holds-means (x .expected) _ _ _ h
 
 -- document 01's table; its row "ab * | 2 | 2" means refusal 2, since ab is no block
-abbrev pub starred : List Case
+abbrev pub starred : List Told
 starred =
     case 1 word-empty 1 (accepted (0 ∷ [])) [] (0 ∷ [])
     ∷ case 1 word-empty 2 (accepted (0 ∷ [])) [] (0 ∷ [])
@@ -109,11 +76,11 @@ starred =
 
 -- CLAIM: the starred cases, answer, ends and working table
 pub starred-hold : T (all starred)
-unfolding bestOutcome bestEndsTable bestWork cell bestEnds sizes repetition? smallestPeriod badEdition? turnsOf
+unfolding bestOutcome bestEndsTable bestWork chosenOutcome chosenEnds chosenWork cell bestEnds sizes repetition? smallestPeriod badEdition? turnsOf
 starred-hold = tt
 
 -- the same sequences in edition 2, and two more of equal symbols: "In edition 2 a block has length ≥ 3 × unit"
-abbrev pub starred-in-2 : List Case
+abbrev pub starred-in-2 : List Told
 starred-in-2 =
     case 2 word-empty 1 (accepted (0 ∷ [])) [] (0 ∷ [])
     ∷ case 2 word-empty 2 (accepted (0 ∷ [])) [] (0 ∷ [])
@@ -143,113 +110,113 @@ starred-in-2 =
 
 -- CLAIM: the same in edition 2
 pub starred-in-2-hold : T (all starred-in-2)
-unfolding bestOutcome bestEndsTable bestWork cell bestEnds sizes repetition? smallestPeriod badEdition? turnsOf
+unfolding bestOutcome bestEndsTable bestWork chosenOutcome chosenEnds chosenWork cell bestEnds sizes repetition? smallestPeriod badEdition? turnsOf
 starred-in-2-hold = tt
 
 -- ---- the two longest sequences of letters
 
 pub fewest-of-001 : bestOutcome word-abaabaababaabaabababa 1 1 (replicate 4 7) (replicate 88 9) ≡ accepted (2 ∷ [])
-unfolding bestOutcome cell repetition? smallestPeriod badEdition? turnsOf
+unfolding bestOutcome chosenOutcome cell repetition? smallestPeriod badEdition? turnsOf
 fewest-of-001 = refl
 
 pub fewest-ends-of-001 : bestEndsTable word-abaabaababaabaabababa 1 1 (replicate 4 7) (replicate 88 9) ≡ 16 ∷ 21 ∷ 7 ∷ 7 ∷ []
-unfolding bestEndsTable cell bestEnds repetition? smallestPeriod badEdition? turnsOf
+unfolding bestEndsTable chosenEnds cell bestEnds repetition? smallestPeriod badEdition? turnsOf
 fewest-ends-of-001 = refl
 
 pub most-of-001 : bestOutcome word-abaabaababaabaabababa 1 2 (replicate 4 7) (replicate 88 9) ≡ accepted (4 ∷ [])
-unfolding bestOutcome cell repetition? smallestPeriod badEdition? turnsOf
+unfolding bestOutcome chosenOutcome cell repetition? smallestPeriod badEdition? turnsOf
 most-of-001 = refl
 
 pub most-ends-of-001 : bestEndsTable word-abaabaababaabaabababa 1 2 (replicate 4 7) (replicate 88 9) ≡ 6 ∷ 10 ∷ 16 ∷ 21 ∷ []
-unfolding bestEndsTable cell bestEnds repetition? smallestPeriod badEdition? turnsOf
+unfolding bestEndsTable chosenEnds cell bestEnds repetition? smallestPeriod badEdition? turnsOf
 most-ends-of-001 = refl
 
 pub fewest-of-000 : bestOutcome word-aabaabaacbbcbbcbb 1 1 (replicate 4 7) (replicate 72 9) ≡ accepted (2 ∷ [])
-unfolding bestOutcome cell repetition? smallestPeriod badEdition? turnsOf
+unfolding bestOutcome chosenOutcome cell repetition? smallestPeriod badEdition? turnsOf
 fewest-of-000 = refl
 
 pub fewest-ends-of-000 : bestEndsTable word-aabaabaacbbcbbcbb 1 1 (replicate 4 7) (replicate 72 9) ≡ 8 ∷ 17 ∷ 7 ∷ 7 ∷ []
-unfolding bestEndsTable cell bestEnds repetition? smallestPeriod badEdition? turnsOf
+unfolding bestEndsTable chosenEnds cell bestEnds repetition? smallestPeriod badEdition? turnsOf
 fewest-ends-of-000 = refl
 
 pub most-of-000 : bestOutcome word-aabaabaacbbcbbcbb 1 2 (replicate 4 7) (replicate 72 9) ≡ accepted (4 ∷ [])
-unfolding bestOutcome cell repetition? smallestPeriod badEdition? turnsOf
+unfolding bestOutcome chosenOutcome cell repetition? smallestPeriod badEdition? turnsOf
 most-of-000 = refl
 
 pub most-ends-of-000 : bestEndsTable word-aabaabaacbbcbbcbb 1 2 (replicate 4 7) (replicate 72 9) ≡ 2 ∷ 8 ∷ 15 ∷ 17 ∷ []
-unfolding bestEndsTable cell bestEnds repetition? smallestPeriod badEdition? turnsOf
+unfolding bestEndsTable chosenEnds cell bestEnds repetition? smallestPeriod badEdition? turnsOf
 most-ends-of-000 = refl
 
 -- ---- refusals of best split
 
 -- "4,097 passes": 1 comes first, and both tables stay
 pub best-too-long-first : bestOutcome (replicate 4097 97) 1 0 [] [] ≡ refused 1 0
-unfolding bestOutcome badEdition? turnsOf
+unfolding bestOutcome chosenOutcome badEdition? turnsOf
 best-too-long-first = refl
 
 pub best-too-long-ends : bestEndsTable (replicate 4097 97) 1 1 (7 ∷ []) (9 ∷ []) ≡ 7 ∷ []
-unfolding bestEndsTable badEdition? turnsOf
+unfolding bestEndsTable chosenEnds badEdition? turnsOf
 best-too-long-ends = refl
 
 pub best-too-long-work : bestWork (replicate 4097 97) 1 1 (9 ∷ []) ≡ 9 ∷ []
-unfolding bestWork badEdition? turnsOf
+unfolding bestWork chosenWork badEdition? turnsOf
 best-too-long-work = refl
 
 pub best-choice-zero : bestOutcome word-aaaa 1 0 [] [] ≡ refused 8 0
-unfolding bestOutcome badEdition? turnsOf
+unfolding bestOutcome chosenOutcome badEdition? turnsOf
 best-choice-zero = refl
 
 pub best-choice-three : bestOutcome word-aaaa 1 3 [] [] ≡ refused 8 0
-unfolding bestOutcome badEdition? turnsOf
+unfolding bestOutcome chosenOutcome badEdition? turnsOf
 best-choice-three = refl
 
 -- "12, an edition other than 1 or 2, directly after 1": after 1, before 8, and both tables stay
 pub best-edition-0 : bestOutcome word-aaaa 0 0 [] [] ≡ refused 12 0
-unfolding bestOutcome badEdition?
+unfolding bestOutcome chosenOutcome badEdition?
 best-edition-0 = refl
 
 pub best-edition-3 : bestOutcome word-aaaa 3 3 [] [] ≡ refused 12 0
-unfolding bestOutcome badEdition?
+unfolding bestOutcome chosenOutcome badEdition?
 best-edition-3 = refl
 
 pub best-too-long-before-edition : bestOutcome (replicate 4097 97) 3 1 [] [] ≡ refused 1 0
-unfolding bestOutcome
+unfolding bestOutcome chosenOutcome
 best-too-long-before-edition = refl
 
 pub best-edition-3-ends : bestEndsTable word-aa 3 1 (7 ∷ []) (replicate 12 9) ≡ 7 ∷ []
-unfolding bestEndsTable badEdition?
+unfolding bestEndsTable chosenEnds badEdition?
 best-edition-3-ends = refl
 
 pub best-edition-3-work : bestWork word-aa 3 1 (replicate 12 9) ≡ replicate 12 9
-unfolding bestWork badEdition?
+unfolding bestWork chosenWork badEdition?
 best-edition-3-work = refl
 
 -- "9: a working table under 4×(n+1) places"
 pub best-table-a-place-short : bestOutcome word-aa 1 1 (7 ∷ []) (replicate 11 9) ≡ refused 9 0
-unfolding bestOutcome badEdition? turnsOf
+unfolding bestOutcome chosenOutcome badEdition? turnsOf
 best-table-a-place-short = refl
 
 -- no split comes before too few places
 pub best-no-split-first : bestOutcome word-ab 1 1 [] (replicate 12 9) ≡ refused 2 0
-unfolding bestOutcome cell repetition? smallestPeriod badEdition? turnsOf
+unfolding bestOutcome chosenOutcome cell repetition? smallestPeriod badEdition? turnsOf
 best-no-split-first = refl
 
 -- "7: fewer output places than the answer needs"; the ends' table stays, the working table does not
 pub best-a-place-short : bestOutcome word-aaaa 1 2 (7 ∷ []) (replicate 20 9) ≡ refused 7 0
-unfolding bestOutcome cell repetition? smallestPeriod badEdition? turnsOf
+unfolding bestOutcome chosenOutcome cell repetition? smallestPeriod badEdition? turnsOf
 best-a-place-short = refl
 
 pub best-a-place-short-ends : bestEndsTable word-aaaa 1 2 (7 ∷ []) (replicate 20 9) ≡ 7 ∷ []
-unfolding bestEndsTable cell bestEnds repetition? smallestPeriod badEdition? turnsOf
+unfolding bestEndsTable chosenEnds cell bestEnds repetition? smallestPeriod badEdition? turnsOf
 best-a-place-short-ends = refl
 
 pub best-a-place-short-work : bestWork word-aaaa 1 2 (replicate 20 9) ≡ 0 ∷ none ∷ 1 ∷ 1 ∷ 2 ∷ replicate 15 0
-unfolding bestWork sizes repetition? smallestPeriod badEdition? turnsOf
+unfolding bestWork chosenWork sizes repetition? smallestPeriod badEdition? turnsOf
 best-a-place-short-work = refl
 
 -- "4,294,967,295 where none exists", then 3×(n+1) zeros: ab has no split, nor has a
 pub best-none-is-the-number : bestWork word-ab 1 1 (replicate 12 9) ≡ 0 ∷ 4294967295 ∷ 4294967295 ∷ replicate 9 0
-unfolding bestWork cell sizes repetition? smallestPeriod badEdition? turnsOf
+unfolding bestWork chosenWork cell sizes repetition? smallestPeriod badEdition? turnsOf
 best-none-is-the-number = refl
 
 -- ---- judged splits

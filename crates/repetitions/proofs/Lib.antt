@@ -1,5 +1,4 @@
 pub mod Blocks
-pub mod FillLaws
 pub mod BestClaims
 pub mod JudgeClaims
 pub mod Determined

@@ -1,4 +1,3 @@
 pub mod Block
-pub mod Fill
 pub mod BestSplit
 pub mod Judge

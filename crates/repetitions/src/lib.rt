@@ -3,9 +3,6 @@ ghost use mathlib.Core.Path.{_≡_};
 ghost use Rattle.answers.specs.Outcome.{countedView};
 ghost use Rattle.repetitions.specs.BestSplit.{bestOutcome, bestEndsTable, bestWork, BestMeaning};
 ghost use Rattle.repetitions.specs.Judge.{splitOutcome, SplitMeaning};
-
-pub mod inner;
-
 use answers::Counted;
 use answers::Refusal;
 
@@ -25,23 +22,13 @@ pub fn best_split(
     ensures worked { λ r. ⌜ now (work .exit) ≡ bestWork (now (w .entry)) edition choice (now (work .entry)) ⌝ }
     ensures meaning { λ r. ⌜ BestMeaning (now (w .entry)) edition choice (now (ends .entry)) (now (work .entry)) (countedView r) (now (ends .exit)) (now (work .exit)) ⌝ }
 {
-    let n = w.len();
-    if answers::LIMIT < n {
+    if answers::LIMIT < w.len() {
         return Counted::Refused(Refusal::TooLong);
     }
     if periods::bad_edition(edition) {
         return Counted::Refused(Refusal::BadEdition);
     }
-    if choice < factors::FEWEST {
-        return Counted::Refused(Refusal::BadChoice);
-    }
-    if factors::MOST < choice {
-        return Counted::Refused(Refusal::BadChoice);
-    }
-    if work.len() < factors::ROWS * (n + 1) {
-        return Counted::Refused(Refusal::ShortTable);
-    }
-    inner::settle(w, edition, choice, ends, work)
+    factorizer::inner::best(w, factorizer::rule_of(edition), choice, ends, work)
 }
 
 // Judge a split: accepted, with the number of blocks, exactly when the ends are those of a
@@ -51,31 +38,11 @@ pub fn judge_split(w: &[u8], edition: u32, ends: &[u32]) -> Counted
     ensures answer { λ r. ⌜ countedView r ≡ splitOutcome (now (w .entry)) edition (now (ends .entry)) ⌝ }
     ensures meaning { λ r. ⌜ SplitMeaning (now (w .entry)) edition (now (ends .entry)) (countedView r) ⌝ }
 {
-    let n = w.len();
-    if answers::LIMIT < n {
+    if answers::LIMIT < w.len() {
         return Counted::Refused(Refusal::TooLong);
     }
     if periods::bad_edition(edition) {
         return Counted::Refused(Refusal::BadEdition);
     }
-    let turns = periods::turns(edition);
-    let mut before: usize = 0;
-    let mut k: usize = 0;
-    while k < ends.len() {
-        let end = ends[k] as usize;
-        let number = (k + 1) as u32;
-        if factors::bad_end(before, end, n) {
-            return Counted::Refused(Refusal::BadEnd(number));
-        }
-        let unit = periods::smallest_period(&w[before..end]);
-        if end - before < turns * unit {
-            return Counted::Refused(Refusal::NotRepetition(number));
-        }
-        before = end;
-        k += 1;
-    }
-    if before != n {
-        return Counted::Refused(Refusal::Unfinished);
-    }
-    Counted::Count(k as u32)
+    factorizer::inner::judge(w, factorizer::rule_of(edition), ends)
 }

@@ -14,16 +14,18 @@ use Rattle.answers.specs.declared.Refusal.{Refusal}
 use Rattle.answers.specs.Outcome.{accepted, refusal, countedView}
 use Rattle.laws.proofs.OneOrTwo.{one-or-two}
 use Rattle.answers.proofs.Claims.{refused-accepted}
-use Rattle.periods.specs.Period.{anyPeriod}
+use Rattle.periods.specs.Period.{repetition?, anyPeriod}
 use Rattle.runs.specs.Table.{runsOf}
 use Rattle.factors.specs.Factorization.{Factorization, choiceOf, Cell, unreachable, reached, bestEnds}
 use Rattle.factors.specs.Table.{rows}
 use Rattle.factors.proofs.Optimal.{Answers}
 use Rattle.repetitions.specs.Block.{Block, block?}
-use Rattle.repetitions.specs.BestSplit.{sizeOutcome, sizeEnds, lastCell, bestOutcome, bestEndsTable}
+use Rattle.factorizer.specs.Best.{sizeOutcome, sizeEnds, settledEnds, settledWork}
+use Rattle.factorizer.proofs.BestClaims.{chosen-settled}
+use Rattle.repetitions.specs.BestSplit.{lastCell, bestOutcome, bestEndsTable}
 use Rattle.periods.proofs.Editions.{two-turns}
 use Rattle.repetitions.proofs.Blocks.{half}
-use Rattle.repetitions.proofs.BestClaims.{word-answers, promised-settled}
+use Rattle.repetitions.proofs.BestClaims.{word-answers, Promised, promised-chosen}
 use Rattle.finder.specs.Find.{recordLimit}
 use Rattle.report.specs.Text.{printedEdition, printedTurns, programLimit, passesName, fewestName, mostName, noneText, runLines, blockLines, splitLines, splitText, text}
 use Rattle.writers.specs.Line.{line}
@@ -50,10 +52,14 @@ module _ (w : List ℕ) (choice : ℕ) (name e t : List ℕ) (held : length w �
   room : rows * (length w + 1) ≤ length t
   room = omega arith
 
+  given : Promised w printedEdition choice e t (sizeOutcome (lastCell printedTurns w choice) (length e)) (settledEnds (repetition? anyPeriod printedTurns) w choice e)
+      (settledWork (repetition? anyPeriod printedTurns) w choice t)
+  given = promised-chosen w printedEdition choice e t (omega arith) (inl refl) _ _ _ (chosen-settled _ w choice e t (one-or-two choice low high) room)
+
   pub split-refused : (a : Counted) (r : Refusal) → a ≡ Refused r → countedView a ≡ bestOutcome w printedEdition choice e t → name ++ noneText ≡ splitText w choice name
   unfolding splitText
   split-refused a r is f =
-      go (lastCell printedTurns w choice) (word-answers printedTurns (choiceOf choice) w (length w)) (ap countedView (sym is) ∙ f ∙ sym (promised-settled w printedEdition choice e t (omega arith) (inl refl) (one-or-two choice low high) room .answer))
+      go (lastCell printedTurns w choice) (word-answers printedTurns (choiceOf choice) w (length w)) (ap countedView (sym is) ∙ f ∙ sym (given .answer))
     where
       go : (v : Cell) → Answers (choiceOf choice) (Block anyPeriod printedTurns w) (length w) v (endsOf w choice) → refusal r ≡ sizeOutcome v (length e)
           → name ++ noneText ≡ splitLines w name v (endsOf w choice)
@@ -66,8 +72,7 @@ module _ (w : List ℕ) (choice : ℕ) (name e t : List ℕ) (held : length w �
   pub split-counted : (a : Counted) (size : ℕ) → a ≡ Count size → countedView a ≡ bestOutcome w printedEdition choice e t → (x : List ℕ) → x ≡ bestEndsTable w printedEdition choice e t → Blocked w choice name size x
   unfolding splitText
   split-counted a size is f x g =
-      let P = promised-settled w printedEdition choice e t (omega arith) (inl refl) (one-or-two choice low high) room in
-      go (lastCell printedTurns w choice) refl (word-answers printedTurns (choiceOf choice) w (length w)) (ap countedView (sym is) ∙ f ∙ sym (P .answer)) (g ∙ sym (P .ends))
+      go (lastCell printedTurns w choice) refl (word-answers printedTurns (choiceOf choice) w (length w)) (ap countedView (sym is) ∙ f ∙ sym (given .answer)) (g ∙ sym (given .ends))
     where
       go : (v : Cell) → lastCell printedTurns w choice ≡ v → Answers (choiceOf choice) (Block anyPeriod printedTurns w) (length w) v (endsOf w choice) → accepted (size ∷ []) ≡ sizeOutcome v (length e)
           → x ≡ sizeEnds v (endsOf w choice) e → Blocked w choice name size x

@@ -198,7 +198,26 @@ fn offer(work: &mut [u32], choice: u32, at: usize, back: usize, size: u32, j: u3
     }
 }
 
-fn spread(work: &mut [u32], n: usize, turns: usize, choice: u32, j: usize, size: u32) {
+/// Whether a part of a length may stand in a split, where so many turns of its unit have the length
+/// span: a block where it is at least as long.
+fn is_block(length: usize, span: usize) -> bool {
+    span <= length
+}
+
+/// The same for a square, of two turns or of so many times two.
+fn is_square(length: usize, span: usize) -> bool {
+    length % span == 0
+}
+
+fn spread(
+    work: &mut [u32],
+    n: usize,
+    turns: usize,
+    choice: u32,
+    j: usize,
+    size: u32,
+    fits: impl Fn(usize, usize) -> bool,
+) {
     let row = n + 1;
     let unit_row = row + row;
     let len = n - j;
@@ -209,7 +228,7 @@ fn spread(work: &mut [u32], n: usize, turns: usize, choice: u32, j: usize, size:
             return;
         }
         d += 1;
-        if d < span {
+        if !fits(d, span) {
             continue;
         }
         let m = j + d;
@@ -217,7 +236,13 @@ fn spread(work: &mut [u32], n: usize, turns: usize, choice: u32, j: usize, size:
     }
 }
 
-fn fill(w: &[u8], turns: usize, choice: u32, work: &mut [u32]) {
+fn fill(
+    w: &[u8],
+    turns: usize,
+    choice: u32,
+    work: &mut [u32],
+    fits: impl Fn(usize, usize) -> bool,
+) {
     let n = w.len();
     let row = n + 1;
     let two = row + row;
@@ -231,7 +256,7 @@ fn fill(w: &[u8], turns: usize, choice: u32, work: &mut [u32]) {
             continue;
         }
         units(&w[j..n], &mut work[two..three]);
-        spread(work, n, turns, choice, j, size + 1);
+        spread(work, n, turns, choice, j, size + 1, &fits);
     }
     work[two..two + two].fill(0);
 }
@@ -252,18 +277,35 @@ pub fn best_split(
     ends: &mut [u32],
     work: &mut [u32],
 ) -> Answer<u32> {
-    let n = w.len();
-    if LIMIT < n {
+    if LIMIT < w.len() {
         return Err((1, 0));
     }
-    let turns = turns_of(edition)?;
+    best(w, turns_of(edition)?, choice, ends, work, is_block)
+}
+
+pub fn best_squares(w: &[u8], choice: u32, ends: &mut [u32], work: &mut [u32]) -> Answer<u32> {
+    if LIMIT < w.len() {
+        return Err((1, 0));
+    }
+    best(w, 2, choice, ends, work, is_square)
+}
+
+fn best(
+    w: &[u8],
+    turns: usize,
+    choice: u32,
+    ends: &mut [u32],
+    work: &mut [u32],
+    fits: impl Fn(usize, usize) -> bool,
+) -> Answer<u32> {
+    let n = w.len();
     if choice != 1 && choice != 2 {
         return Err((8, 0));
     }
     if work.len() < 4 * (n + 1) {
         return Err((9, 0));
     }
-    fill(w, turns, choice, work);
+    fill(w, turns, choice, work, fits);
     let size = work[n];
     let row = n + 1;
     let answer = if size == NONE {
@@ -295,7 +337,7 @@ fn admit(a: &[u8], b: &[u8], edition: u32, work: &[u32]) -> Answer<(usize, usize
 pub fn which_first(a: &[u8], b: &[u8], edition: u32, work: &mut [u32]) -> Answer<u32> {
     let (turns, places) = admit(a, b, edition, work)?;
     let sizes = [a, b].map(|w| {
-        fill(w, turns, 1, work);
+        fill(w, turns, 1, work, is_block);
         work[w.len()]
     });
     work[..places].fill(0);
@@ -321,7 +363,7 @@ pub fn first_block(a: &[u8], b: &[u8], edition: u32, work: &mut [u32]) -> [u32; 
     };
     let found = [a, b].map(|w| {
         let row = w.len() + 1;
-        fill(w, turns, 1, work);
+        fill(w, turns, 1, work, is_block);
         (work[w.len()], first_end(&work[row..row + row], w.len()))
     });
     work[..places].fill(0);
@@ -336,11 +378,38 @@ pub fn first_block(a: &[u8], b: &[u8], edition: u32, work: &mut [u32]) -> [u32; 
 }
 
 pub fn judge_split(w: &[u8], edition: u32, ends: &[u32]) -> Answer<u32> {
-    let n = w.len();
-    if LIMIT < n {
+    if LIMIT < w.len() {
         return Err((1, 0));
     }
     let turns = turns_of(edition)?;
+    judge(w, ends, |part| turns * smallest_period(part) <= part.len())
+}
+
+fn same_halves(part: &[u8]) -> bool {
+    let half = part.len() / 2;
+    if part.len() % 2 == 1 {
+        return false;
+    }
+    let mut i = 0;
+    while i < half {
+        if part[i] != part[half + i] {
+            return false;
+        }
+        i += 1;
+    }
+    true
+}
+
+pub fn judge_squares(w: &[u8], ends: &[u32]) -> Answer<u32> {
+    if LIMIT < w.len() {
+        return Err((1, 0));
+    }
+    judge(w, ends, same_halves)
+}
+
+/// No part that is tested is empty.
+fn judge(w: &[u8], ends: &[u32], fits: impl Fn(&[u8]) -> bool) -> Answer<u32> {
+    let n = w.len();
     let mut before = 0;
     for (k, &end) in ends.iter().enumerate() {
         let end = end as usize;
@@ -348,7 +417,7 @@ pub fn judge_split(w: &[u8], edition: u32, ends: &[u32]) -> Answer<u32> {
         if end <= before || n < end {
             return Err((3, number));
         }
-        if end - before < turns * smallest_period(&w[before..end]) {
+        if !fits(&w[before..end]) {
             return Err((4, number));
         }
         before = end;

@@ -3,8 +3,8 @@
 //! The functions named `plain_..` are the definitions themselves, by trying everything; they serve
 //! short words. The others are faster and of another kind than the library's own (borders, or how far
 //! each distance reaches, instead of the recurrence of periods; runs by period instead of by first
-//! position; each boundary looking back instead of offering forward); the test holds them to the
-//! plain ones on every short word.
+//! position; each boundary looking back instead of offering forward; squares by their halves, without
+//! periods); the test holds them to the plain ones on every short word.
 
 pub const LIMIT: usize = 4096;
 pub const NONE: u32 = u32::MAX;
@@ -148,26 +148,61 @@ pub fn white(runs: &[Run], turns: usize, position: usize) -> Vec<u32> {
     numbers
 }
 
+// ---- squares
+
+/// Some half that is not empty, twice over, is the part.
+pub fn plain_is_square(part: &[u8]) -> bool {
+    (1..=part.len()).any(|half| part == part[..half].repeat(2))
+}
+
+pub fn is_square(part: &[u8]) -> bool {
+    let (left, right) = part.split_at(part.len() / 2);
+    !part.is_empty() && left == right
+}
+
+/// No word has the part as its power with an exponent of 2 or more.
+pub fn plain_is_primitive(part: &[u8]) -> bool {
+    let n = part.len();
+    (1..n).all(|root| part != part[..root].repeat(n / root))
+}
+
+/// The halves of the squares with these ends.
+pub fn halves<'a>(w: &'a [u8], ends: &'a [u32]) -> impl Iterator<Item = &'a [u8]> {
+    let befores = [0].iter().chain(ends);
+    befores.zip(ends).map(|(&before, &end)| {
+        let square = &w[before as usize..end as usize];
+        &square[..square.len() / 2]
+    })
+}
+
 // ---- splits
 
-/// Every split of a word, by its ends.
-pub fn plain_splits(w: &[u8], turns: usize) -> Vec<Vec<u32>> {
-    fn go(w: &[u8], turns: usize, from: usize, ends: &mut Vec<u32>, all: &mut Vec<Vec<u32>>) {
+/// Every split of a word into parts that fit, by its ends.
+fn plain_joined(w: &[u8], fits: &dyn Fn(&[u8]) -> bool) -> Vec<Vec<u32>> {
+    type Fits<'f> = &'f dyn Fn(&[u8]) -> bool;
+    fn go(w: &[u8], fits: Fits, from: usize, ends: &mut Vec<u32>, all: &mut Vec<Vec<u32>>) {
         if from == w.len() {
             all.push(ends.clone());
         }
         for end in from + 1..=w.len() {
-            let part = &w[from..end];
-            if part.len() >= turns * plain_unit(part) {
+            if fits(&w[from..end]) {
                 ends.push(end as u32);
-                go(w, turns, end, ends, all);
+                go(w, fits, end, ends, all);
                 ends.pop();
             }
         }
     }
     let mut all = Vec::new();
-    go(w, turns, 0, &mut Vec::new(), &mut all);
+    go(w, fits, 0, &mut Vec::new(), &mut all);
     all
+}
+
+pub fn plain_splits(w: &[u8], turns: usize) -> Vec<Vec<u32>> {
+    plain_joined(w, &|part| part.len() >= turns * plain_unit(part))
+}
+
+pub fn plain_squares(w: &[u8]) -> Vec<Vec<u32>> {
+    plain_joined(w, &plain_is_square)
 }
 
 /// The lengths of the blocks, the last one first.
@@ -189,7 +224,7 @@ fn lengths_from_end(ends: &[u32]) -> Vec<u32> {
 pub type Best = (Vec<u32>, Option<Vec<u32>>);
 
 /// By looking at every split.
-pub fn plain_best(w: &[u8], turns: usize, choice: u32) -> Best {
+pub fn plain_best(w: &[u8], choice: u32, splits: impl Fn(&[u8]) -> Vec<Vec<u32>>) -> Best {
     let best_of = |splits: &[Vec<u32>]| {
         let sizes = splits.iter().map(|s| s.len() as u32);
         if choice == 1 {
@@ -199,39 +234,39 @@ pub fn plain_best(w: &[u8], turns: usize, choice: u32) -> Best {
         }
         .unwrap_or(NONE)
     };
-    let sizes: Vec<u32> = (0..=w.len())
-        .map(|m| best_of(&plain_splits(&w[..m], turns)))
-        .collect();
-    let ends = plain_splits(w, turns)
+    let sizes: Vec<u32> = (0..=w.len()).map(|m| best_of(&splits(&w[..m]))).collect();
+    let ends = splits(w)
         .into_iter()
         .filter(|s| s.len() as u32 == sizes[w.len()])
         .max_by_key(|s| lengths_from_end(s));
     (sizes, ends)
 }
 
-/// The sizes of one edition and choice, and the boundary before each.
+/// The sizes of one choice, and the boundary before each.
 struct Sizes {
-    turns: usize,
     choice: u32,
     sizes: Vec<u32>,
     back: Vec<usize>,
 }
 
 impl Sizes {
-    fn new(n: usize, turns: usize, choice: u32) -> Sizes {
+    fn new(n: usize, choice: u32) -> Sizes {
         let mut sizes = vec![NONE; n + 1];
         sizes[0] = 0;
         Sizes {
-            turns,
             choice,
             sizes,
             back: vec![0; n + 1],
         }
     }
 
-    /// Takes the part between two boundaries, whose unit is known, if it is a block that serves.
-    fn look_back(&mut self, j: usize, m: usize, unit: usize) {
-        if self.sizes[j] == NONE || m - j < self.turns * unit {
+    fn reached(&self, j: usize) -> bool {
+        self.sizes[j] != NONE
+    }
+
+    /// Takes the part between two boundaries, which may stand in a split, if it serves.
+    fn look_back(&mut self, j: usize, m: usize) {
+        if !self.reached(j) {
             return;
         }
         let size = self.sizes[j] + 1;
@@ -268,7 +303,7 @@ pub fn bests(w: &[u8]) -> [[Best; 2]; 2] {
     let n = w.len();
     let mut all = EDITIONS.map(|edition| {
         let turns = turns(edition).expect("both are editions");
-        [1, 2].map(|choice| Sizes::new(n, turns, choice))
+        (turns, [1, 2].map(|choice| Sizes::new(n, choice)))
     });
     for m in 1..=n {
         let reversed: Vec<u8> = w[..m].iter().rev().copied().collect();
@@ -276,12 +311,28 @@ pub fn bests(w: &[u8]) -> [[Best; 2]; 2] {
         for j in 0..m {
             let length = m - j;
             let unit = length - border[length - 1];
-            for sizes in all.iter_mut().flatten() {
-                sizes.look_back(j, m, unit);
+            for (turns, both) in &mut all {
+                if length >= *turns * unit {
+                    both.iter_mut().for_each(|sizes| sizes.look_back(j, m));
+                }
             }
         }
     }
-    all.map(|edition| edition.map(Sizes::best))
+    all.map(|(_, both)| both.map(Sizes::best))
+}
+
+/// The same for squares and each choice. The two choices reach the same boundaries.
+pub fn best_squares(w: &[u8]) -> [Best; 2] {
+    let n = w.len();
+    let mut both = [1, 2].map(|choice| Sizes::new(n, choice));
+    for m in 1..=n {
+        for j in 0..m {
+            if both[0].reached(j) && is_square(&w[j..m]) {
+                both.iter_mut().for_each(|sizes| sizes.look_back(j, m));
+            }
+        }
+    }
+    both.map(Sizes::best)
 }
 
 // ---- the graph
@@ -396,6 +447,8 @@ pub fn nodes_call(
 }
 
 /// The outcome, the ends, and the front of the working table where the call changes it.
+type BestAnswer = (Outcome, Vec<u32>, Vec<u32>);
+
 pub fn best_call(
     w: &[u8],
     edition: u32,
@@ -403,11 +456,28 @@ pub fn best_call(
     best: &Best,
     places: usize,
     work_places: usize,
-) -> (Outcome, Vec<u32>, Vec<u32>) {
-    let n = w.len();
-    if let Err(outcome) = turns_for(w, edition) {
-        return (outcome, vec![], vec![]);
+) -> BestAnswer {
+    match turns_for(w, edition) {
+        Ok(_) => hand_out(w.len(), choice, best, places, work_places),
+        Err(outcome) => (outcome, vec![], vec![]),
     }
+}
+
+pub fn best_squares_call(
+    w: &[u8],
+    choice: u32,
+    best: &Best,
+    places: usize,
+    work_places: usize,
+) -> BestAnswer {
+    if w.len() > LIMIT {
+        return (refused(1), vec![], vec![]);
+    }
+    hand_out(w.len(), choice, best, places, work_places)
+}
+
+/// From refusal 8 on, for blocks and for squares.
+fn hand_out(n: usize, choice: u32, best: &Best, places: usize, work_places: usize) -> BestAnswer {
     if choice != 1 && choice != 2 {
         return (refused(8), vec![], vec![]);
     }
@@ -493,6 +563,14 @@ pub fn judge_split_call(w: &[u8], edition: u32, ends: &[u32]) -> Outcome {
         Err(outcome) => return outcome,
     };
     verdict(w.len(), ends, |_, i, j| is_block(&w[i..j], turns))
+        .unwrap_or_else(|| Accepted(vec![ends.len() as u32]))
+}
+
+pub fn judge_squares_call(w: &[u8], ends: &[u32]) -> Outcome {
+    if w.len() > LIMIT {
+        return refused(1);
+    }
+    verdict(w.len(), ends, |_, i, j| is_square(&w[i..j]))
         .unwrap_or_else(|| Accepted(vec![ends.len() as u32]))
 }
 

@@ -1,18 +1,16 @@
 -- `repetitions::best_split` meets its contract: each way out is the case of the definitions that its tests lead to, and `best-means` says what that means.
 -- Assumes nothing.
-use mathlib.Core.Path.{sym, _∙_}
+use mathlib.Core.Path.{sym, _∙_, subst}
 use native.Mathlib.Omega.{arith}
 use borrow.Author.Needs.{needs}
-use Rattle.laws.proofs.OneOrTwo.{one-or-two, one-or-two-bounds}
-use Rattle.periods.specs.Edition.{Edition}
 use Rattle.periods.proofs.Editions.{edition-by-test, no-edition-by-test}
-use Rattle.repetitions.proofs.BestClaims.{promised-long, promised-bad-edition, promised-bad-choice, promised-short, promised-settled, best-answered}
+use Rattle.factorizer.specs.declared.Rule.{Rule}
+use Rattle.factorizer.specs.Rule.{Ruled, ruleOf}
+use Rattle.factorizer.proofs.Rules.{edition-ruled}
+use Rattle.factorizer.proofs.BestClaims.{given-by-rule}
+use Rattle.repetitions.proofs.BestClaims.{promised-long, promised-bad-edition, promised-chosen, best-answered}
 use Rattle.repetitions.proofs.best_split.Statement.{statement}
 use Rattle.repetitions.proofs.best_split.Tie as tie
-
--- once the edition is known to be one
-known : (c : tie.Else2) → Edition (c .before .before .before .before .before .before .args .edition)
-known c = edition-by-test (c .before .before .before .before .before .before .args .edition) (sym (c .before .bad-edition .ensures) ∙ c .if2 .left)
 
 returns : tie.Need-returns
 returns c =
@@ -28,30 +26,13 @@ returns-2 c =
     best-answered (g .w .now) (g .edition) (g .choice) (g .ends .now) (g .work .now) _ _ _
     (promised-bad-edition (g .w .now) (g .edition) (g .choice) (g .ends .now) (g .work .now) (omega arith) (no-edition-by-test (g .edition) (sym (c .before .bad-edition .ensures) ∙ c .if2 .taken)))
 
-returns-3 : tie.Need-returns-3
-returns-3 c =
-    let g = c .before .before .before .before .before .before .before .args in
-    best-answered (g .w .now) (g .edition) (g .choice) (g .ends .now) (g .work .now) _ _ _ (promised-bad-choice (g .w .now) (g .edition) (g .choice) (g .ends .now) (g .work .now) (omega arith) (known (c .before)) (λ x. omega (arith, one-or-two-bounds (g .choice) x)))
+rule-of-requires : tie.Need-rule-of-requires
+rule-of-requires c κs = search needs
 
-returns-4 : tie.Need-returns-4
-returns-4 c =
-    let g = c .before .before .before .before .before .before .before .before .args in
-    best-answered (g .w .now) (g .edition) (g .choice) (g .ends .now) (g .work .now) _ _ _ (promised-bad-choice (g .w .now) (g .edition) (g .choice) (g .ends .now) (g .work .now) (omega arith) (known (c .before .before)) (λ x. omega (arith, one-or-two-bounds (g .choice) x)))
-
-add-if5 : tie.Need-add-if5
-add-if5 c = search needs
-
-mul-if5 : tie.Need-mul-if5
-mul-if5 c = search needs
-
-returns-5 : tie.Need-returns-5
-returns-5 c =
+best-requires : tie.Need-best-requires
+best-requires c κs =
     let g = c .before .before .before .before .before .before .before .before .before .args in
-    best-answered (g .w .now) (g .edition) (g .choice) (g .ends .now) (g .work .now) _ _ _
-    (promised-short (g .w .now) (g .edition) (g .choice) (g .ends .now) (g .work .now) (omega arith) (known (c .before .before .before)) (one-or-two (g .choice) (omega arith) (omega arith)) (c .if5 .taken))
-
-settle-requires : tie.Need-settle-requires
-settle-requires c κs = ((omega arith, omega arith), known (c .before .before .before .before .before))
+    (omega arith, subst (λ (r : Rule). Ruled (r .square) (r .turns)) (sym (c .before .before .rule-of .ensures)) (edition-ruled (g .edition)))
 
 same-length : tie.Need-same-length
 same-length c = search needs
@@ -59,27 +40,13 @@ same-length c = search needs
 same-length-2 : tie.Need-same-length-2
 same-length-2 c = search needs
 
-returns-6 : tie.Need-returns-6
-returns-6 c =
-    let g = c .before .before .before .before .before .before .before .before .before .before .before .before .before .before .before .before .args in
-    let s = c .before .before .before .before .settle .ensures in
-    let P = promised-settled (g .w .now) (g .edition) (g .choice) (g .ends .now) (g .work .now) (omega arith) (known (c .before .before .before .before .before .before .before .before .before .before)) (one-or-two (g .choice) (omega arith) (omega arith)) (omega arith) in
+returns-3 : tie.Need-returns-3
+returns-3 c =
+    let g = c .before .before .before .before .before .before .before .before .before .before .before .before .before .before .args in
+    let known = edition-by-test (g .edition) (sym (c .before .before .before .before .before .before .before .before .before .bad-edition .ensures) ∙ c .before .before .before .before .before .before .before .before .if2 .left) in
     best-answered (g .w .now) (g .edition) (g .choice) (g .ends .now) (g .work .now) _ _ _
-    record { answer = s .0 ∙ P .answer; ends = s .1 .0 ∙ P .ends; work = s .1 .1 ∙ P .work }
+    (promised-chosen (g .w .now) (g .edition) (g .choice) (g .ends .now) (g .work .now) (omega arith) known _ _ _
+    (given-by-rule _ (ruleOf (g .edition)) (c .before .before .before .before .before .before .before .rule-of .ensures) _ _ _ _ _ _ _ (c .before .before .before .before .best .ensures)))
 
 pub best-split-spec : {M : Type 1} → statement M
-best-split-spec =
-    tie.close
-    (tie.spec
-    returns
-    bad-edition-requires
-    returns-2
-    returns-3
-    returns-4
-    add-if5
-    mul-if5
-    returns-5
-    settle-requires
-    same-length
-    same-length-2
-    returns-6)
+best-split-spec = tie.close (tie.spec returns bad-edition-requires returns-2 rule-of-requires best-requires same-length same-length-2 returns-3)

@@ -1,0 +1,126 @@
+-- What a filled table holds, for any test of blocks: the sizes in row 0, the previous boundaries in row 1, what follows the four rows as it was; and what is handed
+-- out from it, by factors/proofs/TableLaws.antt. Assumes nothing.
+use mathlib.Core.Path.{_≡_, refl, sym, ap, _∙_}
+use mathlib.Core.Bool.{Bool, cond}
+use mathlib.Core.List.{List, _++_, append-assoc}
+use Prim.Native.Nat.{ℕ, _+_, _-_, _*_, _≤_, _<_}
+use native.Mathlib.Omega.{arith}
+use borrow.Author.Tests.{ne-eqb}
+use lib.Dec.{ltb, eqb}
+use lib.ListN.{length, getD, take, drop, replicate, length-append, length-drop, length-replicate, replicate-append-replicate, List·getD-append}
+use lib.Seq.{take-at, drop-at, drop-append-add, drop-drop}
+use Rattle.answers.specs.Outcome.{limit}
+use Rattle.factors.specs.Factorization.{Choice, Cell, unreachable, reached, cell, bestEnds}
+use Rattle.factors.specs.Table.{none, rows, sizeIn, sizes, previous, filled, endsBack, Linked}
+use Rattle.factors.proofs.Optimal.{size-bound}
+use Rattle.factors.proofs.TableLaws.{length-sizes, length-previous, sizes-at, previous-agrees, linked, ends-back}
+use Rattle.factors.proofs.Lent.{lent}
+use Rattle.factorizer.specs.Fill.{rowOne, Readable, handedOutcome, handedEnds}
+use Rattle.factorizer.specs.Best.{sizeOutcome, sizeEnds}
+use Rattle.factorizer.proofs.FillLaws.{second, zeros}
+
+module _ (c : Choice) (b : ℕ → ℕ → Bool) (n : ℕ) (t : List ℕ) where
+  pub filled-size : (m : ℕ) → m ≤ n → getD (filled c b n t) m 0 ≡ sizeIn (cell c b m)
+  filled-size m h =
+      List·getD-append (sizes c b n) (previous c b n ++ (replicate (2 * (n + 1)) 0 ++ drop (rows * (n + 1)) t)) 0 m (omega (arith, length-sizes c b n))
+      ∙ sizes-at c b n m h
+
+  pub filled-row : rowOne n (filled c b n t) ≡ previous c b n
+  filled-row =
+      let e : n + 1 + (n + 1) - (n + 1) ≡ n + 1 = omega arith in
+      rw (e, drop-at (sizes c b n) (previous c b n ++ (replicate (2 * (n + 1)) 0 ++ drop (rows * (n + 1)) t)) (n + 1) (length-sizes c b n ∙ omega arith))
+      (take-at (previous c b n) (replicate (2 * (n + 1)) 0 ++ drop (rows * (n + 1)) t) (n + 1) (length-previous c b n ∙ omega arith))
+
+  pub filled-long : rows * (n + 1) ≤ length t → length (filled c b n t) ≡ length t
+  filled-long h =
+      omega (
+        arith,
+        length-append (sizes c b n) (previous c b n ++ (replicate (2 * (n + 1)) 0 ++ drop (rows * (n + 1)) t)),
+        length-sizes c b n,
+        length-append (previous c b n) (replicate (2 * (n + 1)) 0 ++ drop (rows * (n + 1)) t),
+        length-previous c b n,
+        length-append (replicate (2 * (n + 1)) 0) (drop (rows * (n + 1)) t),
+        length-replicate {A = ℕ} (2 * (n + 1)) 0,
+        length-drop (rows * (n + 1)) t,
+      )
+
+  -- what follows the four rows
+  pub filled-past : (m : ℕ) → rows * (n + 1) ≤ m → drop m (filled c b n t) ≡ drop m t
+  filled-past m h =
+      let S = sizes c b n in
+      let P = previous c b n in
+      let Z : List ℕ = replicate (2 * (n + 1)) 0 in
+      let R = drop (rows * (n + 1)) t in
+      let e : m ≡ length S + (length P + (length Z + (m - rows * (n + 1)))) =
+      omega (arith, length-sizes c b n, length-previous c b n, length-replicate {A = ℕ} (2 * (n + 1)) 0) in
+      let f : rows * (n + 1) + (m - rows * (n + 1)) ≡ m = omega arith in
+      ap (λ (x : ℕ). drop x (S ++ (P ++ (Z ++ R)))) e
+      ∙ drop-append-add S (P ++ (Z ++ R)) (length P + (length Z + (m - rows * (n + 1))))
+      ∙ drop-append-add P (Z ++ R) (length Z + (m - rows * (n + 1)))
+      ∙ drop-append-add Z R (m - rows * (n + 1))
+      ∙ drop-drop (m - rows * (n + 1)) (rows * (n + 1)) t
+      ∙ ap (λ (x : ℕ). drop x t) f
+
+  -- the row of previous boundaries cleared
+  pub filled-cleared : rows * (n + 1) ≤ length t
+      → lent (filled c b n t) (n + 1) (second n) (zeros (filled c b n t) (n + 1) (second n)) ≡ sizes c b n ++ (replicate (3 * (n + 1)) 0 ++ drop (rows * (n + 1)) t)
+  filled-cleared h =
+      let e : second n - (n + 1) ≡ n + 1 = omega arith in
+      let S = sizes c b n in
+      let P = previous c b n in
+      let R = replicate (2 * (n + 1)) 0 ++ drop (rows * (n + 1)) t in
+      let f : drop (n + 1) (S ++ (P ++ R)) ≡ P ++ R = drop-at S (P ++ R) (n + 1) (length-sizes c b n ∙ omega arith) in
+      let g : take (n + 1) (P ++ R) ≡ P = take-at P R (n + 1) (length-previous c b n ∙ omega arith) in
+      let k : drop (n + 1) (P ++ R) ≡ R = drop-at P R (n + 1) (length-previous c b n ∙ omega arith) in
+      let z : n + 1 + 2 * (n + 1) ≡ 3 * (n + 1) = omega arith in
+      let l : length P ≡ n + 1 = length-previous c b n ∙ omega arith in
+      rw (e, f, g, k, l, take-at S (P ++ R) (n + 1) (length-sizes c b n ∙ omega arith))
+      (ap (λ (x : List ℕ). S ++ x)
+      (sym (append-assoc (replicate (n + 1) 0) (replicate (2 * (n + 1)) 0) (drop (rows * (n + 1)) t))
+      ∙ ap (λ (x : List ℕ). x ++ drop (rows * (n + 1)) t) (replicate-append-replicate (n + 1) (2 * (n + 1)) 0 ∙ ap (λ (x : ℕ). replicate x 0) z)))
+
+  small : n < none → (s p : ℕ) → cell c b n ≡ reached s p → s < none
+  small h s p e = omega (arith, size-bound c b n s p e)
+
+  -- the way back from the whole word
+  filled-linked : n < none → (getD (filled c b n t) n 0 ≡ none → ⊥) → Linked (rowOne n (filled c b n t)) (getD (filled c b n t) n 0) n
+  filled-linked h ne = rw (filled-row, filled-size n (omega arith)) (go (cell c b n) refl (λ e. ne (filled-size n (omega arith) ∙ e)))
+    where
+      go : (v : Cell) → cell c b n ≡ v → (sizeIn v ≡ none → ⊥) → Linked (previous c b n) (sizeIn v) n
+      go unreachable e x = absurd (x refl)
+      go (reached s p) e x = linked c b (previous c b n) n (omega (arith, length-previous c b n)) (previous-agrees c b n) s p e
+
+  -- what is handed out from it
+  pub filled-outcome : n < none → (places : ℕ) → handedOutcome (getD (filled c b n t) n 0) places ≡ sizeOutcome (cell c b n) places
+  filled-outcome h places = rw (filled-size n (omega arith)) (go (cell c b n) refl)
+    where
+      go : (v : Cell) → cell c b n ≡ v → handedOutcome (sizeIn v) places ≡ sizeOutcome v places
+      go unreachable e = refl
+      go (reached s p) e = rw (ne-eqb s none (λ x. omega (arith, small h s p e))) refl
+
+  pub filled-ends : n < none → (e : List ℕ) → handedEnds n (filled c b n t) e ≡ sizeEnds (cell c b n) (bestEnds c b n) e
+  filled-ends h e = rw (filled-row, filled-size n (omega arith)) (go (cell c b n) refl)
+    where
+      go : (v : Cell) → cell c b n ≡ v
+          → cond (eqb (sizeIn v) none) e (cond (ltb (length e) (sizeIn v)) e (endsBack (previous c b n) (sizeIn v) n ++ drop (sizeIn v) e)) ≡ sizeEnds v (bestEnds c b n) e
+      go unreachable f = refl
+      go (reached s p) f =
+          rw (
+            ne-eqb s none (λ x. omega (arith, small h s p f)),
+            ends-back c b (previous c b n) n (omega (arith, length-previous c b n)) (previous-agrees c b n) s p f,
+          ) refl
+
+  -- the same of a table r that is filled, with its row 1 cleared to z
+  module _ (r : List ℕ) (is : r ≡ filled c b n t) (h : n < none) where
+    pub given-readable : n ≤ limit → rows * (n + 1) ≤ length t → Readable n r
+    given-readable small room = (small, omega (arith, ap length is, filled-long room), rw is (filled-linked h))
+
+    pub given-outcome : (places : ℕ) → handedOutcome (getD r n 0) places ≡ sizeOutcome (cell c b n) places
+    given-outcome = rw is (filled-outcome h)
+
+    pub given-ends : (e : List ℕ) → handedEnds n r e ≡ sizeEnds (cell c b n) (bestEnds c b n) e
+    given-ends = rw is (filled-ends h)
+
+    pub given-cleared : (z : List ℕ) → z ≡ zeros r (n + 1) (second n) → rows * (n + 1) ≤ length t
+        → lent r (n + 1) (second n) z ≡ sizes c b n ++ (replicate (3 * (n + 1)) 0 ++ drop (rows * (n + 1)) t)
+    given-cleared z f room = rw (f, is) (filled-cleared room)

@@ -1,0 +1,5 @@
+pub mod Piece
+pub mod Best
+pub mod Judge
+pub mod Rule
+pub mod Fill

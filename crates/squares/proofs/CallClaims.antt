@@ -1,0 +1,107 @@
+-- Best squares says all of demand 3 about splits into squares, and judge squares accepts exactly these: `squares-means`, `judge-means`. Squares are pieces that a
+-- test decides, so what every best split and every judge of one says holds for them (factorizer/proofs); here is refusal 1. Assumes nothing.
+use mathlib.Core.Path.{_≡_, refl, sym, subst}
+use mathlib.Core.List.{List}
+use Prim.Native.Nat.{ℕ, _+_, _*_, _≤_, _<_}
+use native.Mathlib.Omega.{arith}
+use native.Mathlib.Decide.{decLt}
+use borrow.Author.Tests.{lt-ltb, le-ltb}
+use lib.ListN.{length, take}
+use Rattle.answers.specs.Outcome.{Outcome, refused, limit}
+use Rattle.periods.specs.Period.{part, Repetition, anyPeriod}
+use Rattle.periods.specs.Square.{Square, square?}
+use Rattle.periods.specs.Edition.{turnsOf}
+use Rattle.periods.proofs.InPlace.{placed-part}
+use Rattle.periods.proofs.Editions.{turns-of-edition-1}
+use Rattle.periods.proofs.Squares.{square-even, square-repeats}
+use Rattle.factors.specs.Factorization.{Factorization, size, Choice, cell, bestEnds}
+use Rattle.factors.specs.Table.{none, sizeIn}
+use Rattle.factors.proofs.Chains.{chain-map, chain-long}
+use Rattle.factors.proofs.Optimal.{Answers}
+use Rattle.factorizer.specs.Piece.{Piece, piece?}
+use Rattle.factorizer.specs.Best.{Reported}
+use Rattle.factorizer.specs.Judge.{pieceVerdict, Judged}
+use Rattle.factorizer.proofs.Rules.{square-decides}
+use Rattle.factorizer.proofs.BestClaims.{piece-answers, prefix-reported, ChosenGiven, chosen-means}
+use Rattle.factorizer.proofs.JudgeClaims.{judged-means}
+use Rattle.squares.specs.BestSquares.{squaresOutcome, squaresEnds, squaresWork, SquaresMeaning, too-long, chosen}
+use Rattle.squares.specs.JudgeSquares.{judgeOutcome, JudgeMeaning}
+use Rattle.squares.specs.JudgeSquares as judge
+
+-- CLAIM: the theorem of factors, for squares, and what is reported of each prefix, as a word of its own
+module _ (c : Choice) (w : List ℕ) (m : ℕ) where
+  pub squares-answers : Answers c (Piece Square w) m (cell c (piece? square? w) m) (bestEnds c (piece? square? w) m)
+  squares-answers = piece-answers Square square? square-decides c w m
+
+  pub squares-reported : m ≤ length w → length w < none → Reported Square c (take m w) (sizeIn (cell c (piece? square? w) m))
+  squares-reported = prefix-reported Square square? square-decides c w m
+
+-- CLAIM: a split into squares is a split into blocks of edition 1, and has at most half as many squares as symbols
+pub squares-blocks : (w : List ℕ) (m : ℕ) (es : List ℕ) → Factorization (Piece Square w) m es → Factorization (Piece (Repetition anyPeriod (turnsOf 1)) w) m es
+squares-blocks w m es =
+    chain-map (Piece Square w) (Piece (Repetition anyPeriod (turnsOf 1)) w)
+    (λ i j K. (K .0, subst (λ (k : ℕ). Repetition anyPeriod k (part w i j)) (sym turns-of-edition-1) (square-repeats (part w i j) (K .1)))) 0 es m
+
+pub squares-half : (w : List ℕ) (m : ℕ) (es : List ℕ) → Factorization (Piece Square w) m es → 2 * size es ≤ m
+squares-half w m es F = omega (arith, chain-long (Piece Square w) 2 long 0 es m F)
+  where
+    long : (i j : ℕ) → Piece Square w i j → i + 2 ≤ j
+    long i j K = omega (arith, placed-part w i j (K .0) .long, square-even (part w i j) (K .1), K .1 .filled)
+
+-- ---- best squares
+
+module _ (w : List ℕ) (choice : ℕ) (e t : List ℕ) where
+  -- the three promises: the answer, the ends and the work
+  pub record Promised (o : Outcome) (x y : List ℕ) : Type 0 where
+    pub answer : o ≡ squaresOutcome w choice e t
+    pub ends : x ≡ squaresEnds w choice e t
+    pub work : y ≡ squaresWork w choice t
+
+  pub promised-long : limit < length w → Promised (refused 1 0) e t
+  unfolding squaresOutcome squaresEnds squaresWork
+  promised-long h = let f = lt-ltb limit (length w) h in record { answer = rw f refl; ends = rw f refl; work = rw f refl }
+
+  pub promised-chosen : length w ≤ limit → (o : Outcome) (x y : List ℕ) → ChosenGiven square? w choice e t o x y → Promised o x y
+  unfolding squaresOutcome squaresEnds squaresWork
+  promised-chosen h o x y G = let f = le-ltb limit (length w) h in record { answer = rw f (G .answer); ends = rw f (G .ends); work = rw f (G .work) }
+
+  -- CLAIM: best squares says all of demand 3
+  pub squares-means : SquaresMeaning w choice e t (squaresOutcome w choice e t) (squaresEnds w choice e t) (squaresWork w choice t)
+  squares-means = go (decLt limit (length w))
+    where
+      by : {o : Outcome} {x y : List ℕ} → Promised o x y → SquaresMeaning w choice e t o x y
+          → SquaresMeaning w choice e t (squaresOutcome w choice e t) (squaresEnds w choice e t) (squaresWork w choice t)
+      by P M = rw (← P .answer, ← P .ends, ← P .work) M
+
+      go : Dec (limit < length w) → SquaresMeaning w choice e t (squaresOutcome w choice e t) (squaresEnds w choice e t) (squaresWork w choice t)
+      go (yes h) = by (promised-long h) (too-long h refl refl refl)
+      go (no h) =
+          by (promised-chosen (omega arith) _ _ _ record { answer = refl; ends = refl; work = refl })
+          (chosen (omega arith) (chosen-means Square square? square-decides w choice e t (omega arith)))
+
+  -- what the call ensures, from the three promises
+  pub squares-answered : (o : Outcome) (x y : List ℕ) → Promised o x y
+      → (o ≡ squaresOutcome w choice e t) × ((x ≡ squaresEnds w choice e t) × ((y ≡ squaresWork w choice t) × SquaresMeaning w choice e t o x y))
+  squares-answered o x y P = (P .answer, (P .ends, (P .work, rw (P .answer, P .ends, P .work) squares-means)))
+
+-- ---- judge squares
+
+module _ (w ends : List ℕ) where
+  pub judge-too-long : limit < length w → refused 1 0 ≡ judgeOutcome w ends
+  unfolding judgeOutcome
+  judge-too-long h = rw (lt-ltb limit (length w) h) refl
+
+  pub judge-judged : length w ≤ limit → pieceVerdict square? w ends ≡ judgeOutcome w ends
+  unfolding judgeOutcome
+  judge-judged h = rw (le-ltb limit (length w) h) refl
+
+  -- CLAIM: judge squares says what the documents ask
+  pub judge-means : JudgeMeaning w ends (judgeOutcome w ends)
+  judge-means = go (decLt limit (length w))
+    where
+      go : Dec (limit < length w) → JudgeMeaning w ends (judgeOutcome w ends)
+      go (yes h) = judge.JudgeMeaning.too-long h (sym (judge-too-long h))
+      go (no h) = judge.JudgeMeaning.judged (omega arith) (subst (Judged Square w ends) (judge-judged (omega arith)) (judged-means Square square? square-decides w ends))
+
+  pub judge-answered : (o : Outcome) → o ≡ judgeOutcome w ends → (o ≡ judgeOutcome w ends) × JudgeMeaning w ends o
+  judge-answered o e = (e, subst (JudgeMeaning w ends) (sym e) judge-means)

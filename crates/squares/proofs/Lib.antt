@@ -1,0 +1,4 @@
+pub mod CallClaims
+pub mod Determined
+pub mod Most
+pub mod Examples

@@ -1,0 +1,2 @@
+pub mod BestSquares
+pub mod JudgeSquares

@@ -1,0 +1,37 @@
+// Square factorizations: best squares, judge squares.
+ghost use mathlib.Core.Path.{_≡_};
+ghost use Rattle.answers.specs.Outcome.{countedView};
+ghost use Rattle.squares.specs.BestSquares.{squaresOutcome, squaresEnds, squaresWork, SquaresMeaning};
+ghost use Rattle.squares.specs.JudgeSquares.{judgeOutcome, JudgeMeaning};
+use answers::Counted;
+use answers::Refusal;
+
+// Best squares: best split with squares for blocks, and no edition. Choice 1 is fewest, 2 is most.
+// Gives the size, and writes the ends of the factorization of that size whose last square is
+// longest, then the one before it, and so on. The working table afterwards holds the best size of
+// each prefix length. Refusals: 1, 8, 9, 2, 7. Time: quadratic in the word's length at most. 300
+// bytes of stack, and 48 a square.
+pub fn best_squares(w: &[u8], choice: u32, ends: &mut [u32], work: &mut [u32]) -> Counted
+    ensures answer { λ r. ⌜ countedView r ≡ squaresOutcome (now (w .entry)) choice (now (ends .entry)) (now (work .entry)) ⌝ }
+    ensures written { λ r. ⌜ now (ends .exit) ≡ squaresEnds (now (w .entry)) choice (now (ends .entry)) (now (work .entry)) ⌝ }
+    ensures worked { λ r. ⌜ now (work .exit) ≡ squaresWork (now (w .entry)) choice (now (work .entry)) ⌝ }
+    ensures meaning { λ r. ⌜ SquaresMeaning (now (w .entry)) choice (now (ends .entry)) (now (work .entry)) (countedView r) (now (ends .exit)) (now (work .exit)) ⌝ }
+{
+    if answers::LIMIT < w.len() {
+        return Counted::Refused(Refusal::TooLong);
+    }
+    factorizer::inner::best(w, factorizer::square_rule(), choice, ends, work)
+}
+
+// Judge squares: accepted, with the number of squares, exactly when the ends are those of a
+// factorization into squares. Refusals: 1; then for each end in turn 3, 4; then 5. Time linear in
+// the word's length; no stack.
+pub fn judge_squares(w: &[u8], ends: &[u32]) -> Counted
+    ensures answer { λ r. ⌜ countedView r ≡ judgeOutcome (now (w .entry)) (now (ends .entry)) ⌝ }
+    ensures meaning { λ r. ⌜ JudgeMeaning (now (w .entry)) (now (ends .entry)) (countedView r) ⌝ }
+{
+    if answers::LIMIT < w.len() {
+        return Counted::Refused(Refusal::TooLong);
+    }
+    factorizer::inner::judge(w, factorizer::square_rule(), ends)
+}
