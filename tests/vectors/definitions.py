@@ -1,12 +1,13 @@
 #!/usr/bin/env python3
-"""The definitions and calls of document 01 and of document 02's items 1 to 4, as plainly as the
+"""The definitions and calls of document 01 and of document 02's items 1 to 4 and 6, as plainly as the
 documents state them, for the expected outputs of the test programs. Nothing is taken from the
 library or from its runs.
 
 A word (sequence) is a bytes object, a joint m stands after pass number m, and the part between the
 joints a and b is word[a:b]. A definition of blocks or nodes is told k, the turns that a block has at
-least, and a call the edition, which sets k. A call takes what it is lent and gives its outcome, and
-then each lent table as it is afterwards; a lent table is a list, and is not changed in place.
+least, and a call the edition, which sets k; where blocks are squares, k is SQUARES. A call takes what
+it is lent and gives its outcome, and then each lent table as it is afterwards; a lent table is a
+list, and is not changed in place.
 
 Run by itself, this file compares the definitions with one another and with worked examples.
 """
@@ -18,6 +19,7 @@ LIMIT = 4096
 NONE = 4294967295
 FEWEST, MOST = 1, 2
 TURNS = {1: 2, 2: 3}  # k of each edition
+SQUARES = "squares"
 
 
 def accepted(*values):
@@ -50,8 +52,14 @@ def unit(part):
     return p
 
 
+def is_square(part):
+    """A word that is not empty, twice over."""
+    half = len(part) // 2
+    return half > 0 and part[:half] == part[half:]
+
+
 def is_block(part, k):
-    return len(part) >= k * unit(part)
+    return is_square(part) if k == SQUARES else len(part) >= k * unit(part)
 
 
 @lru_cache(maxsize=None)
@@ -180,18 +188,13 @@ def nodes(word, edition, position, table):
     return accepted(len(numbers)), written(numbers, table)
 
 
-def best_split(word, edition, choice, ends, work):
-    """Best split: 1, 12, 8, 9, 2, 7. The working table is the same after an answer, 2 and 7."""
+def best(word, k, choice, ends, work):
+    """8, 9, 2, 7. The working table is the same after an answer, 2 and 7."""
     n = len(word)
-    if n > LIMIT:
-        return refused(1), ends, work
-    if edition not in TURNS:
-        return refused(12), ends, work
     if choice not in (FEWEST, MOST):
         return refused(8), ends, work
     if len(work) < 4 * (n + 1):
         return refused(9), ends, work
-    k = TURNS[edition]
     sizes, _ = best_table(word, k, choice)
     work = written(sizes + [0] * (3 * (n + 1)), work)
     if sizes[n] == NONE:
@@ -199,6 +202,22 @@ def best_split(word, edition, choice, ends, work):
     if len(ends) < sizes[n]:
         return refused(7), ends, work
     return accepted(sizes[n]), written(best_ends(word, k, choice), ends), work
+
+
+def best_split(word, edition, choice, ends, work):
+    """Best split: 1, 12, 8, 9, 2, 7."""
+    if len(word) > LIMIT:
+        return refused(1), ends, work
+    if edition not in TURNS:
+        return refused(12), ends, work
+    return best(word, TURNS[edition], choice, ends, work)
+
+
+def best_squares(word, choice, ends, work):
+    """Best squares: 1, 8, 9, 2, 7."""
+    if len(word) > LIMIT:
+        return refused(1), ends, work
+    return best(word, SQUARES, choice, ends, work)
 
 
 def which_first(a, b, edition, work):
@@ -237,6 +256,13 @@ def judge_split(word, edition, ends):
     if edition not in TURNS:
         return refused(12)
     return verdict(len(word), ends, lambda index, a, b: is_block(word[a:b], TURNS[edition]))
+
+
+def judge_squares(word, ends):
+    """Judge squares: 1; then for each end in turn 3, 4; then 5."""
+    if len(word) > LIMIT:
+        return refused(1)
+    return verdict(len(word), ends, lambda index, a, b: is_square(word[a:b]))
 
 
 def path_of_split(word, edition, ends, table):
@@ -348,17 +374,33 @@ def read_plan(line, table):
 # ---- the definitions compared with one another, and with worked examples
 
 
-@lru_cache(maxsize=None)
-def splits_of(word, edition):
-    """Every split: every choice of joints inside the word is tried, and the last end is n."""
+def joined(word, judge):
+    """Every split that a judge of ends accepts: every choice of joints inside the word is tried, and
+    the last end is n."""
     n = len(word)
     last = [n] if n else []
     return [
         list(inner) + last
         for count in range(max(n, 1))
         for inner in combinations(range(1, n), count)
-        if not is_refused(judge_split(word, edition, list(inner) + last))
+        if not is_refused(judge(list(inner) + last))
     ]
+
+
+@lru_cache(maxsize=None)
+def splits_of(word, edition):
+    return joined(word, lambda ends: judge_split(word, edition, ends))
+
+
+@lru_cache(maxsize=None)
+def squares_of(word):
+    return joined(word, lambda ends: judge_squares(word, ends))
+
+
+def is_primitive(word):
+    """No x has the word as its power with an exponent of 2 or more."""
+    lengths = range(1, len(word))
+    return all(word != word[:m] * (len(word) // m) for m in lengths)
 
 
 def best_of(splits, choice):
@@ -452,6 +494,48 @@ PAIRS = [  # two lay-ups, edition, which first, first block; worked out by hand
     (b"aabaabaa", b"aabb", 2, refused(2), b""),
 ]
 
+SQUARES_OF = [  # word, ends of the fewest squares, ends of the most; None is refusal 2
+    # document 02's
+    (b"aaaa", [4], [2, 4]),
+    (b"aabaabaa", [2, 8], [2, 8]),
+    # source document 002's Example 1
+    (b"abaababaabbbaabbbb", [6, 16, 18], [10, 12, 14, 16, 18]),
+    # worked out by hand
+    (b"", [], []),
+    (b"a", None, None),
+    (b"ab", None, None),
+    (b"aa", [2], [2]),
+    (b"aaa", None, None),
+    (b"aaaaa", None, None),
+    (b"aaaaaa", [6], [2, 4, 6]),
+    (b"abab", [4], [4]),
+    (b"ababa", None, None),
+    (b"ababab", None, None),
+    (b"abababab", [8], [4, 8]),
+    (b"aabb", [2, 4], [2, 4]),
+    (b"aabbaabb", [8], [2, 4, 6, 8]),
+    (b"abba", None, None),
+    (b"aabaab", [6], [6]),
+    (b"baabaa", [6], [6]),
+]
+
+SQUARES_JUDGED = [  # word, ends, outcome; worked out by hand
+    (b"aaaa", [4], accepted(1)),
+    (b"aaaa", [2, 4], accepted(2)),
+    (b"aaaa", [3, 4], refused(4, 1)),
+    (b"aaaa", [2, 3], refused(4, 2)),
+    (b"aaaa", [2, 2, 4], refused(3, 2)),
+    (b"aaaa", [2, 5], refused(3, 2)),
+    (b"aaaa", [2], refused(5)),
+    (b"aaaa", [], refused(5)),
+    (b"ababa", [5], refused(4, 1)),
+    (b"ababab", [6], refused(4, 1)),
+    (b"aabaabaa", [8], refused(4, 1)),
+    (b"aabaabaa", [6, 8], accepted(2)),
+    (b"", [], accepted(0)),
+    (b"", [0], refused(3, 1)),
+]
+
 JUDGED = [  # on aabaabaa, edition 1: ends, and the document's refusal
     ([3, 8], refused(4, 1)),
     ([2, 2, 8], refused(3, 2)),
@@ -506,6 +590,48 @@ def compare_two_with_enumeration(a, b, edition):
     expect(first_block(a, b, edition, lent) == (block, cleared), "first block of", a, b, edition)
 
 
+def compare_squares_with_enumeration(word):
+    """Both choices; and every split of most squares has primitive halves only."""
+    n = len(word)
+    for choice in FEWEST, MOST:
+        leading = [best_of(squares_of(word[:m]), choice) for m in range(n + 1)]
+        size, ends = leading[n]
+        table = [size for size, _ in leading] + [0] * (3 * (n + 1)) + [7]
+        if size == NONE:
+            given = refused(2), [7] * n, table
+        else:
+            given = accepted(size), written(ends, [7] * n), table
+        lent = [7] * len(table)
+        expect(best_squares(word, choice, [7] * n, lent) == given, "squares of", word, choice)
+        if 0 < size < NONE:
+            given = refused(7), [7] * (size - 1), table
+            expect(best_squares(word, choice, given[1], lent) == given, "few places", word, choice)
+    for ends in squares_of(word):
+        if len(ends) == size:
+            halves = [word[a : (a + b) // 2] for a, b in zip([0] + ends, ends)]
+            expect(all(map(is_primitive, halves)), "most squares of", word, ends)
+
+
+def compare_squares_with_examples():
+    for word, *both in SQUARES_OF:
+        for choice, ends in zip((FEWEST, MOST), both):
+            outcome, table, _ = best_squares(word, choice, [7] * 9, [7] * 100)
+            expected = refused(2) if ends is None else accepted(len(ends))
+            expect(outcome == expected, "squares of", word, choice)
+            expect(table == written(ends or [], [7] * 9), "ends of squares of", word, choice)
+            if ends is not None:
+                expect(judge_squares(word, ends) == expected, "judged squares of", word, ends)
+    for word, ends, outcome in SQUARES_JUDGED:
+        expect(judge_squares(word, ends) == outcome, "judged squares", word, ends)
+    # 1, 8, 9 and 2 in this order; both tables are kept after the first three
+    kept = [7], [7] * 11
+    refusals = (b"a" * 4097, 3, 1), (b"ab", 3, 8), (b"ab", 0, 8), (b"ab", 1, 9), (b"ab", 2, 9)
+    for word, choice, number in refusals:
+        expect(best_squares(word, choice, *kept) == (refused(number), *kept), "refusal", number)
+    expect(judge_squares(b"a" * 4097, [0]) == refused(1), "refusal 1 of judge squares")
+    expect(not is_primitive(b"abab") and is_primitive(b"aba") and is_primitive(b"a"), "primitive")
+
+
 def compare_with_examples(edition):
     for word, *both in EXAMPLES[edition]:
         for choice, ends in zip((FEWEST, MOST), both):
@@ -543,6 +669,7 @@ def compare_with_document():
 
 def main():
     compare_with_document()
+    compare_squares_with_examples()
     words = [bytes(letters) for n in range(9) for letters in product(b"ab", repeat=n)]
     # few of these have a split in edition 2
     longer = [word for word, *_ in EXAMPLES[2] if 8 < len(word)]
@@ -550,6 +677,12 @@ def main():
         compare_with_examples(edition)
         for word in words + longer:
             compare_with_enumeration(word, edition)
+    # few of the short words have a split into squares; that of 18 passes would take too long
+    squared = words + [word for word, *_ in SQUARES_OF if len(word) < 13]
+    ends = [word for word in words[:31] if len(word) % 2 == 0]
+    squared += [half + half + end for half in words[1:15] for end in ends]
+    for word in squared:
+        compare_squares_with_enumeration(word)
     # the examples stand beside the short words, few of which have a split in edition 2
     few = {word for word in words if len(word) < 5}
     few |= {word for edition in TURNS for word, *_ in EXAMPLES[edition] if len(word) < 13}
@@ -558,7 +691,8 @@ def main():
             compare_two_with_enumeration(a, b, edition)
     print(
         f"definitions: {len(words + longer)} words compared with the enumeration of their splits and"
-        f" paths, and {len(few) ** 2} pairs with that of their splits, in both editions"
+        f" paths, and {len(few) ** 2} pairs with that of their splits, in both editions;"
+        f" {len(set(squared))} words with that of their splits into squares"
     )
 
 
