@@ -11,7 +11,7 @@ use Rattle.repetitions.specs.Judge.{splitOutcome}
 use Rattle.periods.specs.Square.{square?}
 use Rattle.factorizer.specs.Best.{chosenOutcome}
 use Rattle.squares.specs.BestSquares.{squaresOutcome}
-use Rattle.squares.specs.JudgeSquares.{judgeOutcome}
+use Rattle.squares.specs.JudgeSquares.{squaresJudgedOutcome}
 use Rattle.comparison.specs.Calls.{compared, whichOutcome}
 use Rattle.cegridom.specs.Export.{resultOf, indexOf, valueOf, version}
 use Rattle.periods.proofs.Words.{word-aaaa, word-aabaabaa, word-ab, word-ababa}
@@ -54,8 +54,8 @@ pub squares-result : resultOf (squaresOutcome word-aaaa 2 (replicate 2 7) (repli
 unfolding squaresOutcome chosenOutcome cell square?
 squares-result = refl
 
-pub squares-judged : resultOf (judgeOutcome word-aaaa (2 ∷ 3 ∷ [])) ∷ valueOf 0 (judgeOutcome word-aaaa (2 ∷ 3 ∷ [])) ∷ indexOf (judgeOutcome word-aaaa (2 ∷ 3 ∷ [])) ∷ [] ≡ 4 ∷ 0 ∷ 2 ∷ []
-unfolding judgeOutcome verdict square?
+pub squares-judged : resultOf (squaresJudgedOutcome word-aaaa (2 ∷ 3 ∷ [])) ∷ valueOf 0 (squaresJudgedOutcome word-aaaa (2 ∷ 3 ∷ [])) ∷ indexOf (squaresJudgedOutcome word-aaaa (2 ∷ 3 ∷ [])) ∷ [] ≡ 4 ∷ 0 ∷ 2 ∷ []
+unfolding squaresJudgedOutcome verdict square?
 squares-judged = refl
 
 -- 0.7

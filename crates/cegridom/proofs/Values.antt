@@ -14,7 +14,7 @@ use Rattle.factorizer.specs.Best.{Answered, Chosen}
 use Rattle.repetitions.specs.BestSplit.{BestMeaning}
 use Rattle.repetitions.specs.Judge.{SplitMeaning}
 use Rattle.squares.specs.BestSquares.{SquaresMeaning}
-use Rattle.squares.specs.JudgeSquares.{JudgeMeaning}
+use Rattle.squares.specs.JudgeSquares.{SquaresJudgedMeaning}
 use Rattle.comparison.specs.Calls.{Compared, WhichMeaning}
 use Rattle.paths.specs.Calls.{PathMeaning, PathJudgedMeaning}
 use Rattle.pages.specs.Page.{PageMeaning}
@@ -85,9 +85,9 @@ split-values w edition ends o (SplitMeaning.too-long a e) = known 1 o (refused 1
 split-values w edition ends o (SplitMeaning.bad-edition a i e) = known 1 o (refused 12 0) e (lit≤ tt)
 split-values w edition ends o (SplitMeaning.judged a i j) = verdict-values _ _ ends o (j .verdict-on)
 
-pub judge-squares-values : (w ends : List ℕ) (o : Outcome) → JudgeMeaning w ends o → HasValues 1 o
-judge-squares-values w ends o (JudgeMeaning.too-long a e) = known 1 o (refused 1 0) e (lit≤ tt)
-judge-squares-values w ends o (JudgeMeaning.judged a j) = verdict-values _ _ ends o (j .verdict-on)
+pub squares-judged-values : (w ends : List ℕ) (o : Outcome) → SquaresJudgedMeaning w ends o → HasValues 1 o
+squares-judged-values w ends o (SquaresJudgedMeaning.too-long a e) = known 1 o (refused 1 0) e (lit≤ tt)
+squares-judged-values w ends o (SquaresJudgedMeaning.judged a j) = verdict-values _ _ ends o (j .verdict-on)
 
 pub path-values : (w : List ℕ) (edition : ℕ) (ends t : List ℕ) (o : Outcome) (u : List ℕ) → PathMeaning w edition ends t o u → HasValues 1 o
 path-values w edition ends t o u (PathMeaning.refused-split x i s e k) = known 1 o (refused x i) e (split-values w edition ends (refused x i) s)

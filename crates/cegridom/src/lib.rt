@@ -14,7 +14,7 @@ ghost use Rattle.nodes.specs.Calls.{nodesOutcome, nodesTable, NodesMeaning};
 ghost use Rattle.repetitions.specs.BestSplit.{bestOutcome, bestEndsTable, bestWork};
 ghost use Rattle.repetitions.specs.Judge.{splitOutcome, SplitMeaning};
 ghost use Rattle.squares.specs.BestSquares.{squaresOutcome, squaresEnds, squaresWork};
-ghost use Rattle.squares.specs.JudgeSquares.{judgeOutcome, JudgeMeaning};
+ghost use Rattle.squares.specs.JudgeSquares.{squaresJudgedOutcome, SquaresJudgedMeaning};
 ghost use Rattle.comparison.specs.Calls.{whichOutcome, whichWork, wordIn, lengthIn, firstWhich, firstLength, FirstMeaning};
 ghost use Rattle.paths.specs.Calls.{pathOutcome, pathTable, pathJudgedOutcome, PathJudgedMeaning};
 ghost use Rattle.pages.specs.Page.{pageOutcome, pageTable};
@@ -317,10 +317,10 @@ pub extern "C" fn cegridom_judge_squares(
     blocks: &mut u32,
     index: &mut u32,
 ) -> u32
-    ensures result { λ r. ⌜ r ≡ resultOf (judgeOutcome (now (w .entry)) (now (ends .entry))) ⌝ }
-    ensures blocks { λ _. ⌜ now (blocks .exit) ≡ valueOf 0 (judgeOutcome (now (w .entry)) (now (ends .entry))) ⌝ }
-    ensures index { λ _. ⌜ now (index .exit) ≡ indexOf (judgeOutcome (now (w .entry)) (now (ends .entry))) ⌝ }
-    ensures meaning { λ _. ⌜ JudgeMeaning (now (w .entry)) (now (ends .entry)) (judgeOutcome (now (w .entry)) (now (ends .entry))) ⌝ }
+    ensures result { λ r. ⌜ r ≡ resultOf (squaresJudgedOutcome (now (w .entry)) (now (ends .entry))) ⌝ }
+    ensures blocks { λ _. ⌜ now (blocks .exit) ≡ valueOf 0 (squaresJudgedOutcome (now (w .entry)) (now (ends .entry))) ⌝ }
+    ensures index { λ _. ⌜ now (index .exit) ≡ indexOf (squaresJudgedOutcome (now (w .entry)) (now (ends .entry))) ⌝ }
+    ensures meaning { λ _. ⌜ SquaresJudgedMeaning (now (w .entry)) (now (ends .entry)) (squaresJudgedOutcome (now (w .entry)) (now (ends .entry))) ⌝ }
 {
     let answer = squares::judge_squares(w, ends);
     hand_over(answer, blocks, index)

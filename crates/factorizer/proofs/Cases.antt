@@ -1,7 +1,7 @@
 -- Cases for the calls that give a best split: what is lent to them, what is expected, and that a case that passes its test holds. Each call's examples are a table
 -- of these. Assumes nothing.
 use mathlib.Core.Path.{_≡_}
-use mathlib.Core.Bool.{Bool, _&&_}
+use mathlib.Core.Bool.{Bool, true, _&&_}
 use mathlib.Core.List.{List, [], _∷_, _++_}
 use Prim.Native.Nat.{ℕ, _+_, _-_, _*_}
 use lib.Dec.{T}
@@ -25,23 +25,35 @@ endsLeft w ends = ends ++ replicate (length w + 1 - length ends) 7
 abbrev pub workLeft : List ℕ → List ℕ → List ℕ
 workLeft w best = best ++ (replicate (3 * (length w + 1)) 0 ++ (9 ∷ []))
 
--- a word, and what is expected: the answer, the first places of the ends' table, the best size of each prefix length
+-- what a call's definitions give for a word, the answer, the ends' table and the working table; and what is expected: the answer, the first places of the
+-- ends' table, the best size of each prefix length
 pub record Case : Type 0 where
   pub word : List ℕ
+  pub gives : Outcome
+  pub table : List ℕ
+  pub work : List ℕ
   pub answer : Outcome
   pub ends : List ℕ
   pub best : List ℕ
 
--- the answer o and the tables x and y are as expected
-abbrev pub Holds : Case → Outcome → List ℕ → List ℕ → Type 0
-Holds c o x y = (o ≡ c .answer) × (x ≡ endsLeft (c .word) (c .ends)) × (y ≡ workLeft (c .word) (c .best))
+-- the definitions give what is expected
+abbrev pub Holds : Case → Type 0
+Holds c = (c .gives ≡ c .answer) × (c .table ≡ endsLeft (c .word) (c .ends)) × (c .work ≡ workLeft (c .word) (c .best))
 
 -- the same as a test
-abbrev pub holds? : Case → Outcome → List ℕ → List ℕ → Bool
-holds? c o x y = sameOutcome? o (c .answer) && (same? x (endsLeft (c .word) (c .ends)) && same? y (workLeft (c .word) (c .best)))
+abbrev pub holds? : Case → Bool
+holds? c = sameOutcome? (c .gives) (c .answer) && (same? (c .table) (endsLeft (c .word) (c .ends)) && same? (c .work) (workLeft (c .word) (c .best)))
 
-pub holds-means : (c : Case) (o : Outcome) (x y : List ℕ) → T (holds? c o x y) → Holds c o x y
-holds-means c o x y h =
+abbrev pub all : List Case → Bool
+all [] = true
+all (c ∷ cs) = holds? c && all cs
+
+-- a case that passes the test holds
+pub holds-means : (c : Case) → T (holds? c) → Holds c
+holds-means c h =
+    let x = c .table in
+    let y = c .work in
+    let o = c .gives in
     let ends = same? x (endsLeft (c .word) (c .ends)) in
     let work = same? y (workLeft (c .word) (c .best)) in
     let rest = and-right (sameOutcome? o (c .answer)) (ends && work) h in (

@@ -17,8 +17,8 @@ use Rattle.factors.proofs.Chains.{chain-map, chain-within}
 use Rattle.factorizer.specs.Piece.{Piece, piece?, Decides}
 
 -- a part of a prefix is that part of the word
-pub part-prefix : (w : List ℕ) (m i j : ℕ) → m ≤ length w → j ≤ m → part (take m w) i j ≡ part w i j
-part-prefix w m i j h l = ext-getD 0 (part (take m w) i j) (part w i j) (P .long ∙ sym (Q .long)) (λ x u.
+pub prefix-part : (w : List ℕ) (m i j : ℕ) → m ≤ length w → j ≤ m → part (take m w) i j ≡ part w i j
+prefix-part w m i j h l = ext-getD 0 (part (take m w) i j) (part w i j) (P .long ∙ sym (Q .long)) (λ x u.
     P .symbols x (omega (arith, P .long)) ∙ getD-take m w (i + x) 0 (omega (arith, P .long)) ∙ sym (Q .symbols x (omega (arith, P .long))))
   where
     P : Placed (symbol (take m w)) i (j - i) (part (take m w) i j)
@@ -30,8 +30,8 @@ part-prefix w m i j h l = ext-getD 0 (part (take m w) i j) (part w i j) (P .long
 -- CLAIM: the pieces of a prefix are those of the word that end in it
 pub prefix-piece : (P : List ℕ → Type 0) (w : List ℕ) (m i j : ℕ) → m ≤ length w → j ≤ m → (Piece P (take m w) i j ↔ Piece P w i j)
 prefix-piece P w m i j h l = (
-  (λ K. (omega arith, subst P (part-prefix w m i j h l) (K .1))),
-  (λ K. (omega (arith, length-take m w), subst P (sym (part-prefix w m i j h l)) (K .1))),
+  (λ K. (omega arith, subst P (prefix-part w m i j h l) (K .1))),
+  (λ K. (omega (arith, length-take m w), subst P (sym (prefix-part w m i j h l)) (K .1))),
 )
 
 module _ (P : List ℕ → Type 0) (p : List ℕ → Bool) (D : Decides P p) (w : List ℕ) where

@@ -82,6 +82,7 @@ pub record Settled (P : List ℕ → Type 0) (w : List ℕ) (choice : ℕ) (e t 
   pub long : length y ≡ length t
   pub answered : Answered P (choiceOf choice) w e (getD y (length w) 0) o x
 
+-- what a best split means where the word is within the limit: "8, 9", and then the answer, 2 or 7 with both tables
 pub data Chosen (P : List ℕ → Type 0) (w : List ℕ) (choice : ℕ) (e t : List ℕ) (o : Outcome) (x y : List ℕ) : Type 0 where
   bad-choice : ((choice ≡ 1) ⊎ (choice ≡ 2) → ⊥) → o ≡ refused 8 0 → x ≡ e → y ≡ t → Chosen P w choice e t o x y
   short-table : (choice ≡ 1) ⊎ (choice ≡ 2) → length t < rows * (length w + 1) → o ≡ refused 9 0 → x ≡ e → y ≡ t → Chosen P w choice e t o x y

@@ -21,15 +21,16 @@ squareRule = record { turns = twice; square = true }
 abbrev pub Ruled : Bool → ℕ → Type 0
 Ruled square k = Turns k × (square ≡ true → k ≡ twice)
 
--- whether a word is a block
+-- whether a word is a block of this kind; k counts for repetitions alone
 abbrev pub kind? : Bool → ℕ → List ℕ → Bool
 kind? true k s = square? s
 kind? false k s = repetition? anyPeriod k s
 
+-- the same by a rule
 abbrev pub blockBy : Rule → List ℕ → Bool
 blockBy r = kind? (r .square) (r .turns)
 
--- the same, where the part has this length and the turns that the rule asks of its unit have the length `span`
+-- the same of a part that has this length, where the turns that the rule asks of its unit have the length `span`
 abbrev pub spanTest : Bool → ℕ → ℕ → Bool
 spanTest true len span = eqb (len % span) 0
 spanTest false len span = leb span len

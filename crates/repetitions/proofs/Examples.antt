@@ -2,7 +2,7 @@
 -- one claim, the two longest sequences of letters, the tie rule, and the judged splits. Assumes nothing.
 use mathlib.Core.Path.{_≡_, refl}
 use mathlib.Core.Logic.{inl, inr}
-use mathlib.Core.Bool.{Bool, true, false, _&&_}
+use mathlib.Core.Bool.{true, false}
 use mathlib.Core.List.{List, [], _∷_, _++_}
 use Prim.Native.Nat.{ℕ}
 use native.Mathlib.Omega.{arith}
@@ -15,7 +15,7 @@ use Rattle.factors.specs.Factorization.{LongerFromEnd, cell, bestEnds}
 use Rattle.factors.specs.Table.{none, sizes}
 use Rattle.factors.specs.Verdict.{verdict}
 use Rattle.factorizer.specs.Best.{chosenOutcome, chosenEnds, chosenWork}
-use Rattle.factorizer.proofs.Cases.{lentEnds, lentWork, Case, Holds, holds?, holds-means}
+use Rattle.factorizer.proofs.Cases.{lentEnds, lentWork, Case, all}
 use Rattle.repetitions.specs.Block.{block?}
 use Rattle.repetitions.specs.BestSplit.{bestOutcome, bestEndsTable, bestWork}
 use Rattle.repetitions.specs.Judge.{splitOutcome}
@@ -23,34 +23,20 @@ use Rattle.periods.proofs.Words.{word-a, word-aa, word-aaa, word-aaaa, word-aaa
 
 -- ---- the starred cases
 
--- an edition, a choice, and what is expected of a word
-pub record Told : Type 0 where
-  pub edition : ℕ
-  pub choice : ℕ
-  pub expected : Case
-
-abbrev case : ℕ → List ℕ → ℕ → Outcome → List ℕ → List ℕ → Told
-case edition w choice answer ends best = record { edition = edition; choice = choice; expected = record { word = w; answer = answer; ends = ends; best = best } }
-
--- the three definitions give it
-abbrev pub splits? : Told → Bool
-splits? x =
-    let w = x .expected .word in
-    holds? (x .expected) (bestOutcome w (x .edition) (x .choice) (lentEnds w) (lentWork w)) (bestEndsTable w (x .edition) (x .choice) (lentEnds w) (lentWork w))
-    (bestWork w (x .edition) (x .choice) (lentWork w))
-
-abbrev pub all : List Told → Bool
-all [] = true
-all (x ∷ xs) = splits? x && all xs
-
--- a case that passes the test holds
-pub splits-means : (x : Told) → T (splits? x) → let w = x .expected .word in
-    Holds (x .expected) (bestOutcome w (x .edition) (x .choice) (lentEnds w) (lentWork w)) (bestEndsTable w (x .edition) (x .choice) (lentEnds w) (lentWork w))
-    (bestWork w (x .edition) (x .choice) (lentWork w))
-splits-means x h = holds-means (x .expected) _ _ _ h
+-- a word in an edition and by a choice, and what is expected
+abbrev case : ℕ → List ℕ → ℕ → Outcome → List ℕ → List ℕ → Case
+case edition w choice answer ends best = record {
+  word = w;
+  gives = bestOutcome w edition choice (lentEnds w) (lentWork w);
+  table = bestEndsTable w edition choice (lentEnds w) (lentWork w);
+  work = bestWork w edition choice (lentWork w);
+  answer = answer;
+  ends = ends;
+  best = best;
+}
 
 -- document 01's table; its row "ab * | 2 | 2" means refusal 2, since ab is no block
-abbrev pub starred : List Told
+abbrev pub starred : List Case
 starred =
     case 1 word-empty 1 (accepted (0 ∷ [])) [] (0 ∷ [])
     ∷ case 1 word-empty 2 (accepted (0 ∷ [])) [] (0 ∷ [])
@@ -80,7 +66,7 @@ unfolding bestOutcome bestEndsTable bestWork chosenOutcome chosenEnds chosenWork
 starred-hold = tt
 
 -- the same sequences in edition 2, and two more of equal symbols: "In edition 2 a block has length ≥ 3 × unit"
-abbrev pub starred-in-2 : List Told
+abbrev pub starred-in-2 : List Case
 starred-in-2 =
     case 2 word-empty 1 (accepted (0 ∷ [])) [] (0 ∷ [])
     ∷ case 2 word-empty 2 (accepted (0 ∷ [])) [] (0 ∷ [])

@@ -1,4 +1,4 @@
--- Best squares says all of demand 3 about splits into squares, and judge squares accepts exactly these: `squares-means`, `judge-means`. Squares are pieces that a
+-- Best squares says all of demand 3 about splits into squares, and judge squares accepts exactly these: `squares-means`, `squares-judged-means`. Squares are pieces that a
 -- test decides, so what every best split and every judge of one says holds for them (factorizer/proofs); here is refusal 1. Assumes nothing.
 use mathlib.Core.Path.{_≡_, refl, sym, subst}
 use mathlib.Core.List.{List}
@@ -25,7 +25,7 @@ use Rattle.factorizer.proofs.Rules.{square-decides}
 use Rattle.factorizer.proofs.BestClaims.{piece-answers, prefix-reported, ChosenGiven, chosen-means}
 use Rattle.factorizer.proofs.JudgeClaims.{judged-means}
 use Rattle.squares.specs.BestSquares.{squaresOutcome, squaresEnds, squaresWork, SquaresMeaning, too-long, chosen}
-use Rattle.squares.specs.JudgeSquares.{judgeOutcome, JudgeMeaning}
+use Rattle.squares.specs.JudgeSquares.{squaresJudgedOutcome, SquaresJudgedMeaning}
 use Rattle.squares.specs.JudgeSquares as judge
 
 -- CLAIM: the theorem of factors, for squares, and what is reported of each prefix, as a word of its own
@@ -87,21 +87,21 @@ module _ (w : List ℕ) (choice : ℕ) (e t : List ℕ) where
 -- ---- judge squares
 
 module _ (w ends : List ℕ) where
-  pub judge-too-long : limit < length w → refused 1 0 ≡ judgeOutcome w ends
-  unfolding judgeOutcome
-  judge-too-long h = rw (lt-ltb limit (length w) h) refl
+  pub squares-judged-too-long : limit < length w → refused 1 0 ≡ squaresJudgedOutcome w ends
+  unfolding squaresJudgedOutcome
+  squares-judged-too-long h = rw (lt-ltb limit (length w) h) refl
 
-  pub judge-judged : length w ≤ limit → pieceVerdict square? w ends ≡ judgeOutcome w ends
-  unfolding judgeOutcome
-  judge-judged h = rw (le-ltb limit (length w) h) refl
+  pub squares-judged-fine : length w ≤ limit → pieceVerdict square? w ends ≡ squaresJudgedOutcome w ends
+  unfolding squaresJudgedOutcome
+  squares-judged-fine h = rw (le-ltb limit (length w) h) refl
 
   -- CLAIM: judge squares says what the documents ask
-  pub judge-means : JudgeMeaning w ends (judgeOutcome w ends)
-  judge-means = go (decLt limit (length w))
+  pub squares-judged-means : SquaresJudgedMeaning w ends (squaresJudgedOutcome w ends)
+  squares-judged-means = go (decLt limit (length w))
     where
-      go : Dec (limit < length w) → JudgeMeaning w ends (judgeOutcome w ends)
-      go (yes h) = judge.JudgeMeaning.too-long h (sym (judge-too-long h))
-      go (no h) = judge.JudgeMeaning.judged (omega arith) (subst (Judged Square w ends) (judge-judged (omega arith)) (judged-means Square square? square-decides w ends))
+      go : Dec (limit < length w) → SquaresJudgedMeaning w ends (squaresJudgedOutcome w ends)
+      go (yes h) = judge.SquaresJudgedMeaning.too-long h (sym (squares-judged-too-long h))
+      go (no h) = judge.SquaresJudgedMeaning.judged (omega arith) (subst (Judged Square w ends) (squares-judged-fine (omega arith)) (judged-means Square square? square-decides w ends))
 
-  pub judge-answered : (o : Outcome) → o ≡ judgeOutcome w ends → (o ≡ judgeOutcome w ends) × JudgeMeaning w ends o
-  judge-answered o e = (e, subst (JudgeMeaning w ends) (sym e) judge-means)
+  pub squares-judged-answered : (o : Outcome) → o ≡ squaresJudgedOutcome w ends → (o ≡ squaresJudgedOutcome w ends) × SquaresJudgedMeaning w ends o
+  squares-judged-answered o e = (e, subst (SquaresJudgedMeaning w ends) (sym e) squares-judged-means)

@@ -10,8 +10,8 @@ use Rattle.factorizer.proofs.Rules.{square-decides}
 use Rattle.factorizer.proofs.JudgeClaims.{judged-determined}
 use Rattle.factorizer.proofs.Determined.{chosen-determined}
 use Rattle.squares.specs.BestSquares.{squaresOutcome, squaresEnds, squaresWork, SquaresMeaning}
-use Rattle.squares.specs.JudgeSquares.{judgeOutcome, JudgeMeaning}
-use Rattle.squares.proofs.CallClaims.{promised-long, promised-chosen, judge-too-long, judge-judged}
+use Rattle.squares.specs.JudgeSquares.{squaresJudgedOutcome, SquaresJudgedMeaning}
+use Rattle.squares.proofs.CallClaims.{promised-long, promised-chosen, squares-judged-too-long, squares-judged-fine}
 use Rattle.squares.specs.BestSquares as best
 use Rattle.squares.specs.JudgeSquares as judge
 
@@ -24,6 +24,6 @@ squares-determined w choice e t o x y (best.SquaresMeaning.chosen h C) =
     (P .answer, P .ends, P .work)
 
 -- CLAIM: the meaning of judge squares determines the answer
-pub judge-determined : (w ends : List ℕ) (o : Outcome) → JudgeMeaning w ends o → o ≡ judgeOutcome w ends
-judge-determined w ends o (judge.JudgeMeaning.too-long h e) = e ∙ judge-too-long w ends h
-judge-determined w ends o (judge.JudgeMeaning.judged h J) = judged-determined Square square? square-decides w ends o J ∙ judge-judged w ends h
+pub squares-judged-determined : (w ends : List ℕ) (o : Outcome) → SquaresJudgedMeaning w ends o → o ≡ squaresJudgedOutcome w ends
+squares-judged-determined w ends o (judge.SquaresJudgedMeaning.too-long h e) = e ∙ squares-judged-too-long w ends h
+squares-judged-determined w ends o (judge.SquaresJudgedMeaning.judged h J) = judged-determined Square square? square-decides w ends o J ∙ squares-judged-fine w ends h

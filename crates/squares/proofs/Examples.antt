@@ -1,7 +1,6 @@
 -- The examples of the request and of source document 002, computed from the definitions that the contracts of this crate cite: one table of cases with one claim,
 -- the refusals, the judged splits, and a split of most squares. Assumes nothing.
 use mathlib.Core.Path.{_≡_, refl}
-use mathlib.Core.Bool.{Bool, true, _&&_}
 use mathlib.Core.List.{List, [], _∷_}
 use Prim.Native.Nat.{ℕ}
 use lib.Dec.{T}
@@ -13,37 +12,26 @@ use Rattle.factors.specs.Factorization.{cell, bestEnds}
 use Rattle.factors.specs.Table.{none, sizes}
 use Rattle.factors.specs.Verdict.{verdict}
 use Rattle.factorizer.specs.Best.{chosenOutcome, chosenEnds, chosenWork}
-use Rattle.factorizer.proofs.Cases.{lentEnds, lentWork, Case, Holds, holds?, holds-means}
+use Rattle.factorizer.proofs.Cases.{lentEnds, lentWork, Case, all}
 use Rattle.squares.specs.BestSquares.{squaresOutcome, squaresEnds, squaresWork}
-use Rattle.squares.specs.JudgeSquares.{judgeOutcome}
+use Rattle.squares.specs.JudgeSquares.{squaresJudgedOutcome}
 
 -- ---- best squares
 
--- a choice, and what is expected of a word
-pub record Told : Type 0 where
-  pub choice : ℕ
-  pub expected : Case
-
-abbrev case : List ℕ → ℕ → Outcome → List ℕ → List ℕ → Told
-case w choice answer ends best = record { choice = choice; expected = record { word = w; answer = answer; ends = ends; best = best } }
-
--- the three definitions give it
-abbrev pub splits? : Told → Bool
-splits? x =
-    let w = x .expected .word in
-    holds? (x .expected) (squaresOutcome w (x .choice) (lentEnds w) (lentWork w)) (squaresEnds w (x .choice) (lentEnds w) (lentWork w)) (squaresWork w (x .choice) (lentWork w))
-
-abbrev pub all : List Told → Bool
-all [] = true
-all (x ∷ xs) = splits? x && all xs
-
--- a case that passes the test holds
-pub splits-means : (x : Told) → T (splits? x) → let w = x .expected .word in
-    Holds (x .expected) (squaresOutcome w (x .choice) (lentEnds w) (lentWork w)) (squaresEnds w (x .choice) (lentEnds w) (lentWork w)) (squaresWork w (x .choice) (lentWork w))
-splits-means x h = holds-means (x .expected) _ _ _ h
+-- a word by a choice, and what is expected
+abbrev case : List ℕ → ℕ → Outcome → List ℕ → List ℕ → Case
+case w choice answer ends best = record {
+  word = w;
+  gives = squaresOutcome w choice (lentEnds w) (lentWork w);
+  table = squaresEnds w choice (lentEnds w) (lentWork w);
+  work = squaresWork w choice (lentWork w);
+  answer = answer;
+  ends = ends;
+  best = best;
+}
 
 -- "aaaa has fewest 4, most 2,4. On aabaabaa both answers are 2,8." The last is Example 1 of document 002; no word of odd length has a split
-abbrev pub examples : List Told
+abbrev pub examples : List Case
 examples =
     case word-empty 1 (accepted (0 ∷ [])) [] (0 ∷ [])
     ∷ case word-empty 2 (accepted (0 ∷ [])) [] (0 ∷ [])
@@ -132,76 +120,76 @@ squares-a-place-short-work = refl
 -- ---- judged splits
 
 -- "A square's half need not be primitive"
-pub judged-4 : judgeOutcome word-aaaa (4 ∷ []) ≡ accepted (1 ∷ [])
-unfolding judgeOutcome verdict square?
+pub judged-4 : squaresJudgedOutcome word-aaaa (4 ∷ []) ≡ accepted (1 ∷ [])
+unfolding squaresJudgedOutcome verdict square?
 judged-4 = refl
 
-pub judged-2-4 : judgeOutcome word-aaaa (2 ∷ 4 ∷ []) ≡ accepted (2 ∷ [])
-unfolding judgeOutcome verdict square?
+pub judged-2-4 : squaresJudgedOutcome word-aaaa (2 ∷ 4 ∷ []) ≡ accepted (2 ∷ [])
+unfolding squaresJudgedOutcome verdict square?
 judged-2-4 = refl
 
 -- "two largest square factorizations: (aa, baabaa) and (aabaab, aa)"
-pub judged-2-8 : judgeOutcome word-aabaabaa (2 ∷ 8 ∷ []) ≡ accepted (2 ∷ [])
-unfolding judgeOutcome verdict square?
+pub judged-2-8 : squaresJudgedOutcome word-aabaabaa (2 ∷ 8 ∷ []) ≡ accepted (2 ∷ [])
+unfolding squaresJudgedOutcome verdict square?
 judged-2-8 = refl
 
-pub judged-6-8 : judgeOutcome word-aabaabaa (6 ∷ 8 ∷ []) ≡ accepted (2 ∷ [])
-unfolding judgeOutcome verdict square?
+pub judged-6-8 : squaresJudgedOutcome word-aabaabaa (6 ∷ 8 ∷ []) ≡ accepted (2 ∷ [])
+unfolding squaresJudgedOutcome verdict square?
 judged-6-8 = refl
 
 -- a block that is no square: it has a rest
-pub judged-8 : judgeOutcome word-aabaabaa (8 ∷ []) ≡ refused 4 1
-unfolding judgeOutcome verdict square?
+pub judged-8 : squaresJudgedOutcome word-aabaabaa (8 ∷ []) ≡ refused 4 1
+unfolding squaresJudgedOutcome verdict square?
 judged-8 = refl
 
 -- an odd length
-pub judged-3 : judgeOutcome word-aaa (3 ∷ []) ≡ refused 4 1
-unfolding judgeOutcome verdict square?
+pub judged-3 : squaresJudgedOutcome word-aaa (3 ∷ []) ≡ refused 4 1
+unfolding squaresJudgedOutcome verdict square?
 judged-3 = refl
 
-pub judged-2-3 : judgeOutcome word-aaa (2 ∷ 3 ∷ []) ≡ refused 4 2
-unfolding judgeOutcome verdict square?
+pub judged-2-3 : squaresJudgedOutcome word-aaa (2 ∷ 3 ∷ []) ≡ refused 4 2
+unfolding squaresJudgedOutcome verdict square?
 judged-2-3 = refl
 
 -- halves that differ
-pub judged-halves : judgeOutcome word-ab (2 ∷ []) ≡ refused 4 1
-unfolding judgeOutcome verdict square?
+pub judged-halves : squaresJudgedOutcome word-ab (2 ∷ []) ≡ refused 4 1
+unfolding squaresJudgedOutcome verdict square?
 judged-halves = refl
 
 -- "for each end in turn 3, 4; then 5"
-pub judged-2-2-8 : judgeOutcome word-aabaabaa (2 ∷ 2 ∷ 8 ∷ []) ≡ refused 3 2
-unfolding judgeOutcome verdict square?
+pub judged-2-2-8 : squaresJudgedOutcome word-aabaabaa (2 ∷ 2 ∷ 8 ∷ []) ≡ refused 3 2
+unfolding squaresJudgedOutcome verdict square?
 judged-2-2-8 = refl
 
-pub judged-2-9 : judgeOutcome word-aabaabaa (2 ∷ 9 ∷ []) ≡ refused 3 2
-unfolding judgeOutcome verdict square?
+pub judged-2-9 : squaresJudgedOutcome word-aabaabaa (2 ∷ 9 ∷ []) ≡ refused 3 2
+unfolding squaresJudgedOutcome verdict square?
 judged-2-9 = refl
 
-pub judged-2 : judgeOutcome word-aabaabaa (2 ∷ []) ≡ refused 5 0
-unfolding judgeOutcome verdict square?
+pub judged-2 : squaresJudgedOutcome word-aabaabaa (2 ∷ []) ≡ refused 5 0
+unfolding squaresJudgedOutcome verdict square?
 judged-2 = refl
 
-pub judged-no-ends : judgeOutcome word-aabaabaa [] ≡ refused 5 0
-unfolding judgeOutcome verdict square?
+pub judged-no-ends : squaresJudgedOutcome word-aabaabaa [] ≡ refused 5 0
+unfolding squaresJudgedOutcome verdict square?
 judged-no-ends = refl
 
-pub judged-empty : judgeOutcome [] [] ≡ accepted (0 ∷ [])
-unfolding judgeOutcome verdict square?
+pub judged-empty : squaresJudgedOutcome [] [] ≡ accepted (0 ∷ [])
+unfolding squaresJudgedOutcome verdict square?
 judged-empty = refl
 
 -- F1, F2 and F3 of Example 1 of document 002, the first factor of F1 and F2 being abaababaab
-pub judged-f1 : judgeOutcome word-abaababaabbbaabbbb (10 ∷ 12 ∷ 14 ∷ 16 ∷ 18 ∷ []) ≡ accepted (5 ∷ [])
-unfolding judgeOutcome verdict square?
+pub judged-f1 : squaresJudgedOutcome word-abaababaabbbaabbbb (10 ∷ 12 ∷ 14 ∷ 16 ∷ 18 ∷ []) ≡ accepted (5 ∷ [])
+unfolding squaresJudgedOutcome verdict square?
 judged-f1 = refl
 
-pub judged-f2 : judgeOutcome word-abaababaabbbaabbbb (10 ∷ 12 ∷ 14 ∷ 18 ∷ []) ≡ accepted (4 ∷ [])
-unfolding judgeOutcome verdict square?
+pub judged-f2 : squaresJudgedOutcome word-abaababaabbbaabbbb (10 ∷ 12 ∷ 14 ∷ 18 ∷ []) ≡ accepted (4 ∷ [])
+unfolding squaresJudgedOutcome verdict square?
 judged-f2 = refl
 
-pub judged-f3 : judgeOutcome word-abaababaabbbaabbbb (6 ∷ 16 ∷ 18 ∷ []) ≡ accepted (3 ∷ [])
-unfolding judgeOutcome verdict square?
+pub judged-f3 : squaresJudgedOutcome word-abaababaabbbaabbbb (6 ∷ 16 ∷ 18 ∷ []) ≡ accepted (3 ∷ [])
+unfolding squaresJudgedOutcome verdict square?
 judged-f3 = refl
 
-pub judged-too-long : judgeOutcome (replicate 4097 97) [] ≡ refused 1 0
-unfolding judgeOutcome
+pub judged-too-long : squaresJudgedOutcome (replicate 4097 97) [] ≡ refused 1 0
+unfolding squaresJudgedOutcome
 judged-too-long = refl

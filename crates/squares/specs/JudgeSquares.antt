@@ -10,9 +10,10 @@ use Rattle.answers.specs.Outcome.{Outcome, refused, refusal, limit}
 use Rattle.periods.specs.Square.{Square, square?}
 use Rattle.factorizer.specs.Judge.{pieceVerdict, Judged}
 
-unfoldable pub judgeOutcome : List ℕ → List ℕ → Outcome
-judgeOutcome w ends = cond (ltb limit (length w)) (refusal TooLong) (pieceVerdict square? w ends)
+-- 1, and then "for each end in turn 3, 4; then 5"
+unfoldable pub squaresJudgedOutcome : List ℕ → List ℕ → Outcome
+squaresJudgedOutcome w ends = cond (ltb limit (length w)) (refusal TooLong) (pieceVerdict square? w ends)
 
-pub data JudgeMeaning (w ends : List ℕ) (o : Outcome) : Type 0 where
-  too-long : limit < length w → o ≡ refused 1 0 → JudgeMeaning w ends o
-  judged : length w ≤ limit → Judged Square w ends o → JudgeMeaning w ends o
+pub data SquaresJudgedMeaning (w ends : List ℕ) (o : Outcome) : Type 0 where
+  too-long : limit < length w → o ≡ refused 1 0 → SquaresJudgedMeaning w ends o
+  judged : length w ≤ limit → Judged Square w ends o → SquaresJudgedMeaning w ends o

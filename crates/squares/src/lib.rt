@@ -2,7 +2,7 @@
 ghost use mathlib.Core.Path.{_≡_};
 ghost use Rattle.answers.specs.Outcome.{countedView};
 ghost use Rattle.squares.specs.BestSquares.{squaresOutcome, squaresEnds, squaresWork, SquaresMeaning};
-ghost use Rattle.squares.specs.JudgeSquares.{judgeOutcome, JudgeMeaning};
+ghost use Rattle.squares.specs.JudgeSquares.{squaresJudgedOutcome, SquaresJudgedMeaning};
 use answers::Counted;
 use answers::Refusal;
 
@@ -27,8 +27,8 @@ pub fn best_squares(w: &[u8], choice: u32, ends: &mut [u32], work: &mut [u32]) -
 // factorization into squares. Refusals: 1; then for each end in turn 3, 4; then 5. Time linear in
 // the word's length; no stack.
 pub fn judge_squares(w: &[u8], ends: &[u32]) -> Counted
-    ensures answer { λ r. ⌜ countedView r ≡ judgeOutcome (now (w .entry)) (now (ends .entry)) ⌝ }
-    ensures meaning { λ r. ⌜ JudgeMeaning (now (w .entry)) (now (ends .entry)) (countedView r) ⌝ }
+    ensures answer { λ r. ⌜ countedView r ≡ squaresJudgedOutcome (now (w .entry)) (now (ends .entry)) ⌝ }
+    ensures meaning { λ r. ⌜ SquaresJudgedMeaning (now (w .entry)) (now (ends .entry)) (countedView r) ⌝ }
 {
     if answers::LIMIT < w.len() {
         return Counted::Refused(Refusal::TooLong);
