@@ -1,10 +1,10 @@
 -- A word of even length is a square exactly where its unit divides half its length, and the test decides squares. A half is a period; the remainder of its
--- division by the unit would be a smaller period, and a multiple of the unit is a period. And powers: a power twice over is that power of the word twice over.
--- Assumes nothing.
+-- division by the unit would be a smaller period, and a multiple of the unit is a period. And powers: a power twice over is that power of the word twice over;
+-- a half that is the unit is primitive, since a word of which it were a power would be a shorter period. Assumes nothing.
 use mathlib.Core.Path.{_≡_, refl, sym, ap, _∙_, subst}
 use mathlib.Core.Logic.{_↔_}
 use mathlib.Core.Bool.{Bool, true, false, _&&_}
-use mathlib.Core.List.{List, [], _++_, append-nil, append-assoc}
+use mathlib.Core.List.{List, [], _∷_, _++_, append-nil, append-assoc}
 use Prim.Native.Nat.{ℕ, zero, suc, _+_, _-_, _*_, _/_, _%_, _≤_, _<_}
 use native.Mathlib.Omega.{arith}
 use native.Mathlib.Decide.{decLt}
@@ -15,7 +15,7 @@ use lib.ListN.{length, getD, take, drop, length-take, length-drop, length-append
 use lib.Seq.{getD-take, getD-drop, getD-append-add, ext-getD}
 use Rattle.laws.proofs.Tests.{and-intro, and-left, and-right}
 use Rattle.periods.specs.Period.{Period, SmallestPeriod, Repetition, anyPeriod, agrees, smallestPeriod}
-use Rattle.periods.specs.Square.{twice, power, Square, square?}
+use Rattle.periods.specs.Square.{twice, power, Primitive, Square, square?}
 use Rattle.periods.proofs.InPlace.{symbol}
 use Rattle.periods.proofs.Claims.{agrees-sound, agrees-complete, smallest-period-is}
 
@@ -40,6 +40,18 @@ module _ (s : List ℕ) (p : ℕ) (P : Period s p) where
       same i h (no l) =
           ap (symbol s) (omega arith) ∙ sym (times k (i - k * p) (omega arith)) ∙ Q .same (i - k * p) (omega arith) ∙ ap (symbol s) (omega arith)
 
+-- a word in front of and behind the same other word
+commuting-period : (s x t : List ℕ) → s ≡ x ++ t → s ≡ t ++ x → 0 < length x → Period s (length x)
+commuting-period s x t front behind filled = record { positive = filled; fits = omega (arith, long); same = same }
+  where
+    long : length s ≡ length x + length t
+    long = ap length front ∙ length-append x t
+
+    same : (i : ℕ) → i + length x < length s → getD s i 0 ≡ getD s (i + length x) 0
+    same i h =
+        ap (λ (z : List ℕ). getD z i 0) behind ∙ List·getD-append t x 0 i (omega (arith, long))
+        ∙ sym (getD-append-add x t i 0) ∙ ap (λ (z : List ℕ). getD z (length x + i) 0) (sym front) ∙ ap (symbol s) (omega arith)
+
 -- ---- the half
 
 module _ (s : List ℕ) where
@@ -51,16 +63,8 @@ module _ (s : List ℕ) where
 
   -- half the length of a square is a period
   pub half-period : (q : ℕ) → Square s → length s ≡ 2 * q → Period s q
-  half-period q S two = record { positive = omega (arith, square-filled S); fits = omega arith; same = same }
-    where
-      long : length (S .half) ≡ q
-      long = omega (arith, square-even S)
-
-      same : (i : ℕ) → i + q < length s → getD s i 0 ≡ getD s (i + q) 0
-      same i h =
-          ap (λ (x : List ℕ). getD x i 0) (S .twice-over) ∙ List·getD-append (S .half) (S .half) 0 i (omega (arith, long))
-          ∙ sym (getD-append-add (S .half) (S .half) i 0) ∙ ap (λ (x : List ℕ). getD x (length (S .half) + i) 0) (sym (S .twice-over))
-          ∙ ap (symbol s) (omega (arith, long))
+  half-period q S two =
+      subst (Period s) (omega (arith, square-even S)) (commuting-period s (S .half) (S .half) (S .twice-over) (S .twice-over) (S .filled))
 
   -- and a word with such a period is a square
   pub period-half : (q : ℕ) → Period s q → length s ≡ 2 * q → Square s
@@ -175,3 +179,31 @@ power-twice (suc k) x =
     append-assoc p x (p ++ x)
     ∙ ap (λ (z : List ℕ). p ++ z) (sym (append-assoc x p x) ∙ ap (λ (z : List ℕ). z ++ x) (power-commutes k x) ∙ append-assoc p x x)
     ∙ sym (append-assoc p p (x ++ x)) ∙ ap (λ (z : List ℕ). z ++ (x ++ x)) (power-twice k x)
+
+-- CLAIM: a square's half that is its unit is primitive
+pub unit-half-primitive : (s : List ℕ) (S : Square s) → SmallestPeriod s (length (S .half)) → Primitive (S .half)
+unit-half-primitive s S U x zero two e = omega arith
+unit-half-primitive s S U x (suc zero) two e = omega arith
+unit-half-primitive s S U [] (suc (suc k)) two e = omega (arith, S .filled, ap length (e ∙ power-empty (suc (suc k))))
+unit-half-primitive s S U (y ∷ ys) (suc (suc k)) two e =
+    omega (arith, U .least (length x) (commuting-period s x (t ++ u) front behind (omega arith)), ap length e, length-append t x, length-append (power k x) x)
+  where
+    x : List ℕ
+    x = y ∷ ys
+
+    u : List ℕ
+    u = S .half
+
+    -- the half is t and x
+    t : List ℕ
+    t = power (suc k) x
+
+    front : s ≡ x ++ (t ++ u)
+    front =
+        S .twice-over ∙ ap (λ (z : List ℕ). z ++ u) (e ∙ sym (power-commutes (suc k) x)) ∙ append-assoc x t u
+
+    behind : s ≡ (t ++ u) ++ x
+    behind =
+        S .twice-over ∙ ap (λ (z : List ℕ). z ++ u) e ∙ append-assoc t x u
+        ∙ ap (λ (z : List ℕ). t ++ z) (ap (λ (z : List ℕ). x ++ z) e ∙ power-commutes (suc (suc k)) x ∙ ap (λ (z : List ℕ). z ++ x) (sym e))
+        ∙ sym (append-assoc t u x)
