@@ -1,7 +1,8 @@
 -- The least start of a window: of the p starts of a window in a part with smallest period p there is one, and one only, whose p symbols come before those of
 -- every other (`least-start-exists`, `least-start-unique`), and these symbols are a Lyndon word (`least-start-lyndon`). In a sequence of symbols `f : ℕ → ℕ`
--- counted from 0, for the order of symbols and for its reverse. Two starts differ within p symbols, since otherwise their distance would be a smaller period. The
--- least start's symbols differ from each of their suffixes within it, since otherwise the start as far on as the suffix is long would come before. Assumes nothing.
+-- counted from 0, for the order of symbols and for its reverse. Two starts differ within p symbols, since otherwise their distance would be a smaller period. Where
+-- the symbols from one place come before those from another, no start up to the first difference after the other is the least (`overtaken`): the start as far on
+-- after the one comes before it. So the least start's symbols differ from each of their suffixes within it, and so a search can leap. Assumes nothing.
 use mathlib.Core.Path.{_≡_, refl, sym, ap, _∙_, subst, subst₂}
 use mathlib.Core.Logic.{_⊎_, inl, inr, _≢_}
 use mathlib.Core.Bool.{Bool, true, false}
@@ -119,6 +120,23 @@ module _ (f : ℕ → ℕ) where
             below-trans o (f (a + X .common)) (f (b + X .common)) (f (c + X .common)) (X .less) (subst (λ (k : ℕ). Below o (f (b + k)) (f (c + k))) e (Y .less));
       }
 
+  -- what comes before a place comes before one with the same symbols
+  pub ahead-agree : {o : Bool} {m a b c : ℕ} → Ahead o f m a b → Agree f m b c → Ahead o f m a c
+  ahead-agree {o} {m} {a} {b} {c} X h = record {
+    common = X .common;
+    short = X .short;
+    same = λ i l. X .same i l ∙ h i (omega arith);
+    less = subst (λ (x : ℕ). Below o (f (a + X .common)) x) (h (X .common) (X .short)) (X .less);
+  }
+
+  -- one symbol more
+  pub agree-more : (m a b : ℕ) → Agree f m a b → f (a + m) ≡ f (b + m) → Agree f (suc m) a b
+  agree-more m a b h e i l = go (decLt i m)
+    where
+      go : Dec (i < m) → f (a + i) ≡ f (b + i)
+      go (yes v) = h i v
+      go (no v) = let z : i ≡ m = omega arith in rw z e
+
   -- the m symbols from a and from b are the same, or the ones come before the others
   ahead-total : (o : Bool) (m a b : ℕ) → Agree f m a b ⊎ (Ahead o f m a b ⊎ Ahead o f m b a)
   ahead-total o zero a b = inl (λ i h. absurd (omega arith))
@@ -131,37 +149,43 @@ module _ (f : ℕ → ℕ) where
       decided h (inl l) = inl (record { common = m; short = omega arith; same = h; less = l })
       decided h (inr l) = inr (record { common = m; short = omega arith; same = λ i k. sym (h i k); less = l })
 
-      last : Agree f m a b → f (a + m) ≡ f (b + m) → (i : ℕ) → i < suc m → Dec (i < m) → f (a + i) ≡ f (b + i)
-      last h e i l (yes v) = h i v
-      last h e i l (no v) = let z : i ≡ m = omega arith in rw z e
-
       go : Agree f m a b ⊎ (Ahead o f m a b ⊎ Ahead o f m b a) → Dec (f (a + m) ≡ f (b + m)) → Agree f (suc m) a b ⊎ (Ahead o f (suc m) a b ⊎ Ahead o f (suc m) b a)
       go (inr (inl X)) d = inr (inl (longer a b X))
       go (inr (inr X)) d = inr (inr (longer b a X))
-      go (inl h) (yes e) = inl (λ i l. last h e i l (decLt i m))
+      go (inl h) (yes e) = inl (agree-more m a b h e)
       go (inl h) (no e) = inr (decided h (below-total o (f (a + m)) (f (b + m)) e))
 
   -- ---- the least start
 
+  pub least-one : {o : Bool} {m : ℕ} (s : ℕ) → LeastStart o f s 1 m s
+  least-one s = record { from = omega arith; to = omega arith; least = λ c x y z. absurd (z (omega arith)) }
+
+  -- one start more, which comes after the least so far, or before it
+  pub least-kept : {o : Bool} {m s d q : ℕ} → LeastStart o f s (suc d) m q → Ahead o f m q (s + suc d) → LeastStart o f s (suc (suc d)) m q
+  least-kept {o} {m} {s} {d} {q} L X = record { from = L .from; to = omega arith; least = λ c x y z. old c x y z (ℕ-discrete c (s + suc d)) }
+    where
+      old : (c : ℕ) → s ≤ c → c < s + suc (suc d) → c ≢ q → Dec (c ≡ s + suc d) → Ahead o f m q c
+      old c x y z (yes e) = subst (λ (c : ℕ). Ahead o f m q c) (sym e) X
+      old c x y z (no e) = L .least c x (omega arith) z
+
+  pub least-moved : {o : Bool} {m s d q : ℕ} → LeastStart o f s (suc d) m q → Ahead o f m (s + suc d) q → LeastStart o f s (suc (suc d)) m (s + suc d)
+  least-moved {o} {m} {s} {d} {q} L X = record { from = omega arith; to = omega arith; least = λ c x y z. new c x (omega arith) (ℕ-discrete c q) }
+    where
+      new : (c : ℕ) → s ≤ c → c < s + suc d → Dec (c ≡ q) → Ahead o f m (s + suc d) c
+      new c x y (yes e) = subst (λ (c : ℕ). Ahead o f m (s + suc d) c) (sym e) X
+      new c x y (no e) = ahead-trans X (L .least c x y e)
+
   -- of d + 1 starts, any two of which differ within m symbols, one comes first
   least-of : (o : Bool) (m s d : ℕ) → ((a b : ℕ) → s ≤ a → a < b → b < s + suc d → Ahead o f m a b ⊎ Ahead o f m b a) → (q : ℕ) × LeastStart o f s (suc d) m q
-  least-of o m s zero h = (s, record { from = omega arith; to = omega arith; least = λ c x y z. absurd (z (omega arith)) })
+  least-of o m s zero h = (s, least-one s)
   least-of o m s (suc d) h = go (least-of o m s d (λ a b x y z. h a b x y (omega arith)))
     where
       go : (q : ℕ) × LeastStart o f s (suc d) m q → (q : ℕ) × LeastStart o f s (suc (suc d)) m q
       go (q, L) = by (h q (s + suc d) (L .from) (L .to) (omega arith))
         where
-          old : Ahead o f m q (s + suc d) → (c : ℕ) → s ≤ c → c < s + suc (suc d) → c ≢ q → Dec (c ≡ s + suc d) → Ahead o f m q c
-          old X c x y z (yes e) = subst (λ (c : ℕ). Ahead o f m q c) (sym e) X
-          old X c x y z (no e) = L .least c x (omega arith) z
-
-          new : Ahead o f m (s + suc d) q → (c : ℕ) → s ≤ c → c < s + suc d → Dec (c ≡ q) → Ahead o f m (s + suc d) c
-          new X c x y (yes e) = subst (λ (c : ℕ). Ahead o f m (s + suc d) c) (sym e) X
-          new X c x y (no e) = ahead-trans X (L .least c x y e)
-
           by : Ahead o f m q (s + suc d) ⊎ Ahead o f m (s + suc d) q → (q : ℕ) × LeastStart o f s (suc (suc d)) m q
-          by (inl X) = (q, record { from = L .from; to = omega arith; least = λ c x y z. old X c x y z (ℕ-discrete c (s + suc d)) })
-          by (inr X) = (s + suc d, record { from = omega arith; to = omega arith; least = λ c x y z. new X c x (omega arith) (ℕ-discrete c q) })
+          by (inl X) = (q, least-kept L X)
+          by (inr X) = (s + suc d, least-moved L X)
 
   pub least-start-unique : {o : Bool} {s d m q q′ : ℕ} → LeastStart o f s d m q → LeastStart o f s d m q′ → q ≡ q′
   least-start-unique {o} {s} {d} {m} {q} {q′} X Y = go (ℕ-discrete q q′)
@@ -173,20 +197,23 @@ module _ (f : ℕ → ℕ) where
   -- ---- a window in a part with smallest period p: the p starts from s on, with p symbols each
   module _ (A B p : ℕ) (U : SmallestIn f A B p) (s : ℕ) (left : A ≤ s) (room : s + 2 * p ≤ suc B) (o : Bool) where
     -- two starts differ within p symbols
-    window-total : (a b : ℕ) → s ≤ a → a < b → b < s + p → Ahead o f p a b ⊎ Ahead o f p b a
-    window-total a b l x u = go (ahead-total o p a b)
+    pub window-differs : (a b : ℕ) → s ≤ a → a < b → b < s + p → Agree f p a b → ⊥
+    window-differs a b l x u h =
+        omega (arith, U .least (b - a) (period-extend f A B a (b + p) p (b - a) (U .period) (omega arith) (omega arith) distance (omega arith)))
       where
-        distance : Agree f p a b → PeriodIn f a (b + p) (b - a)
-        distance h = record {
+        distance : PeriodIn f a (b + p) (b - a)
+        distance = record {
           positive = omega arith;
           fits = omega arith;
           same = λ i y z. ap f (omega arith) ∙ h (i - a) (omega arith) ∙ ap f (omega arith);
         }
 
+    pub window-total : (a b : ℕ) → s ≤ a → a < b → b < s + p → Ahead o f p a b ⊎ Ahead o f p b a
+    window-total a b l x u = go (ahead-total o p a b)
+      where
         go : Agree f p a b ⊎ (Ahead o f p a b ⊎ Ahead o f p b a) → Ahead o f p a b ⊎ Ahead o f p b a
         go (inr r) = r
-        go (inl h) =
-            absurd (omega (arith, U .least (b - a) (period-extend f A B a (b + p) p (b - a) (U .period) (omega arith) (omega arith) (distance h) (omega arith))))
+        go (inl h) = absurd (window-differs a b l x u h)
 
     pub least-start-exists : (q : ℕ) × LeastStart o f s p p q
     least-start-exists =
@@ -206,6 +233,40 @@ module _ (f : ℕ → ℕ) where
     step-not t (inr z) q c y e l u v = omega arith
 
     module _ (q : ℕ) (X : LeastStart o f s p p q) where
+      -- the symbols from x and y agree k times, and then y's come before x's: the least start, or the place one period on (r), is not among x and the k places after it
+      pub overtaken : (x y k r : ℕ) → Step r → Agree f k x y → Below o (f (y + k)) (f (x + k)) → x < s + p → s ≤ y → y < s + p → k < p → x ≤ q + r → q + r ≤ x + k → ⊥
+      overtaken x y k r R h l xu yl yu kp lo hi = go (decLt (y + m) (s + p))
+        where
+          -- it is m places after x
+          m : ℕ
+          m = q + r - x
+
+          back : (i : ℕ) → i ≤ k - m → f (x + (m + i)) ≡ f (q + i)
+          back i v = sym (step-same r R (q + i) (x + (m + i)) (omega arith) (omega arith) (omega arith))
+
+          -- the start that is m places after y, or one period before that (t), would come before the least
+          before : (t : ℕ) → Step t → (z : ℕ) → s ≤ z → z < s + p → z + t ≡ y + m → ⊥
+          before t T z zl zu ze = by (ℕ-discrete z q)
+            where
+              on : (i : ℕ) → i ≤ k - m → f (z + i) ≡ f (y + (m + i))
+              on i v = step-same t T (z + i) (y + (m + i)) (omega arith) (omega arith) (omega arith)
+
+              ahead : Ahead o f p z q
+              ahead = record {
+                common = k - m;
+                short = omega arith;
+                same = λ i v. on i (omega arith) ∙ sym (h (m + i) (omega arith)) ∙ back i (omega arith);
+                less = subst₂ (Below o) (ap f (omega arith) ∙ sym (on (k - m) (omega arith))) (ap f (omega arith) ∙ back (k - m) (omega arith)) l;
+              }
+
+              by : Dec (z ≡ q) → ⊥
+              by (yes e) = ahead-differs ahead (ap (λ (c : ℕ). f (c + (k - m))) e)
+              by (no e) = ahead-asym (X .least z zl zu e) ahead
+
+          go : Dec (y + m < s + p) → ⊥
+          go (yes v) = before 0 (inl refl) (y + m) (omega arith) v (omega arith)
+          go (no v) = before p (inr refl) (y + m - p) (omega arith) (omega arith) (omega arith)
+
       -- y is the start c of the window or one period on (t), and t′ is the other step; m is what is left from y on of the p symbols from q
       lyndon-at : (t t′ : ℕ) → Step t → Step t′ → t + t′ ≡ p → (c y m : ℕ) → s ≤ c → c < s + p → c + t ≡ y → q < y → y < q + p → y + m ≡ q + p → Ahead o f m q y
       lyndon-at t t′ T T′ tt′ c y m l u e x h ym = go (X .least c l u (step-not t T q c y e x h))
@@ -216,32 +277,6 @@ module _ (f : ℕ → ℕ) where
               inside : (i : ℕ) → i < m → f (c + i) ≡ f (y + i)
               inside i k = step-same t T (c + i) (y + i) (omega arith) (omega arith) (omega arith)
 
-              -- where the first difference is not within the m symbols, the start z, which is q + m or one period before it, comes before q
-              rotated : m ≤ Y .common → (r : ℕ) → Step r → (z : ℕ) → s ≤ z → z < s + p → z + r ≡ q + m → ⊥
-              rotated v r R z zl zu ze =
-                  ahead-asym {m′ = p} (X .least z zl zu (step-not r R q z (q + m) ze (omega arith) (omega arith)))
-                  record { common = Y .common - m; short = omega arith; same = same; less = less }
-                where
-                  on : (i : ℕ) → i ≤ Y .common - m → f (z + i) ≡ f (q + (m + i))
-                  on i k = step-same r R (z + i) (q + (m + i)) (omega arith) (omega arith) (omega arith)
-
-                  back : (i : ℕ) → i ≤ Y .common - m → f (c + (m + i)) ≡ f (q + i)
-                  back i k = sym (step-same t′ T′ (q + i) (c + (m + i)) (omega arith) (omega arith) (omega arith))
-
-                  same : Agree f (Y .common - m) z q
-                  same i k = on i (omega arith) ∙ Y .same (m + i) (omega arith) ∙ back i (omega arith)
-
-                  less : Below o (f (z + (Y .common - m))) (f (q + (Y .common - m)))
-                  less =
-                      subst₂ (Below o)
-                      (ap f (omega arith) ∙ sym (on (Y .common - m) (omega arith)))
-                      (ap f (omega arith) ∙ back (Y .common - m) (omega arith))
-                      (Y .less)
-
-              outside : m ≤ Y .common → Dec (q + m < s + p) → ⊥
-              outside v (yes r) = rotated v 0 (inl refl) (q + m) (omega arith) r (omega arith)
-              outside v (no r) = rotated v p (inr refl) (q + m - p) (omega arith) (omega arith) (omega arith)
-
               by : Dec (Y .common < m) → Ahead o f m q y
               by (yes v) = record {
                 common = Y .common;
@@ -249,7 +284,9 @@ module _ (f : ℕ → ℕ) where
                 same = λ i k. Y .same i k ∙ inside i (omega arith);
                 less = subst (λ (r : ℕ). Below o (f (q + Y .common)) r) (inside (Y .common) v) (Y .less);
               }
-              by (no v) = absurd (outside (omega arith) (decLt (q + m) (s + p)))
+              -- else the least start is overtaken
+              by (no v) =
+                  absurd (overtaken c q (Y .common) t′ T′ (λ i k. sym (Y .same i k)) (Y .less) u (X .from) (X .to) (Y .short) (omega arith) (omega arith))
 
       pub least-start-lyndon : Lyndon o f p q
       least-start-lyndon y l u = go (decLt y (s + p))
