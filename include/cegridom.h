@@ -44,9 +44,9 @@ extern "C" {
 
 /* The version of this header, in numbers and as text; cegridom_version gives the archive's. */
 #define CEGRIDOM_VERSION_MAJOR 0
-#define CEGRIDOM_VERSION_MINOR 7
+#define CEGRIDOM_VERSION_MINOR 8
 #define CEGRIDOM_VERSION (1000 * CEGRIDOM_VERSION_MAJOR + CEGRIDOM_VERSION_MINOR)
-#define CEGRIDOM_VERSION_STRING "0.7"
+#define CEGRIDOM_VERSION_STRING "0.8"
 
 /* The longest word that is taken. */
 #define CEGRIDOM_LIMIT 4096
@@ -62,8 +62,8 @@ extern "C" {
 /* The most ends that a split of a word of n symbols has in edition 1; in edition 2 and for squares
    they suffice. */
 #define CEGRIDOM_MOST_ENDS(n) ((n) / 2)
-/* The places that so many runs take: first, last, unit of each. */
-#define CEGRIDOM_RUN_PLACES(runs) (3 * (runs))
+/* The places that so many runs take: first, last, unit, root of each. */
+#define CEGRIDOM_RUN_PLACES(runs) (4 * (runs))
 /* The bytes of a page of so many blocks. */
 #define CEGRIDOM_PAGE_BYTES(k) (61 * (k))
 /* The bytes of a plan line with k ends. */
@@ -175,10 +175,15 @@ uint32_t cegridom_part(const uint8_t *word, size_t n, uint32_t edition, uint32_t
                        uint32_t *turns, uint32_t *rest, uint32_t *block, uint32_t *index);
 
 /*
- * Runs: writes first, last and unit of each run to table, by first and then by unit, which is the
- * order of the run numbers from 1, and gives their count.
- * Reads word; changes the first 3 x count places of table. Refusals: 1, 7.
- * 3 x n places suffice, since a word of n symbols, n above 0, has fewer than n runs.
+ * Runs: writes first, last, unit and root of each run to table, by first and then by unit, which is
+ * the order of the run numbers from 1, and gives their count. The root is the position q from first
+ * to first + unit - 1 where the unit symbols starting at q come first in order of symbol code, from
+ * 0 to 255; there is just one. Two runs wind the same unit, perhaps from different starting
+ * symbols, exactly where their units are equal and the unit symbols starting at their roots are the
+ * same.
+ * Reads word; changes the first 4 x count places of table. Refusals: 1, 7.
+ * CEGRIDOM_RUN_PLACES(n) places, 4 x n, suffice, since a word of n symbols, n above 0, has fewer
+ * than n runs.
  * Time at most quadratic in n; 17 KiB of stack.
  */
 uint32_t cegridom_runs(const uint8_t *word, size_t n, uint32_t *table, size_t places,
@@ -190,7 +195,7 @@ uint32_t cegridom_runs(const uint8_t *word, size_t n, uint32_t *table, size_t pl
  * first + 3 x unit - 1) to last.
  * Reads word; changes the first count places of table. Refusals: 1, 12, 6, 7.
  * n places suffice, since no word has more runs than symbols.
- * Time at most quadratic in n; 65 KiB of stack.
+ * Time at most quadratic in n; 81 KiB of stack.
  */
 uint32_t cegridom_nodes(const uint8_t *word, size_t n, uint32_t edition, uint32_t position,
                         uint32_t *table, size_t places, uint32_t *count, uint32_t *index);
@@ -275,7 +280,7 @@ uint32_t cegridom_judge_squares(const uint8_t *word, size_t n, const uint32_t *e
  * It is that of the one run that encloses the block and has its unit.
  * Reads word and ends; changes the first blocks places of table.
  * Refusals: 1; 12; then for each end in turn 3, 4; then 5; then 7.
- * Time at most quadratic in n; 81 KiB of stack.
+ * Time at most quadratic in n; 97 KiB of stack.
  */
 uint32_t cegridom_path_of_split(const uint8_t *word, size_t n, uint32_t edition,
                                 const uint32_t *ends, size_t end_count, uint32_t *table,
@@ -286,7 +291,7 @@ uint32_t cegridom_path_of_split(const uint8_t *word, size_t n, uint32_t edition,
  * blocks, exactly when the numbers are those of a path of length n in the edition's graph of the
  * runs.
  * Reads word and numbers. Refusals: 1; 12; 10; then for each end in turn 3, 4; then 5.
- * Time at most quadratic in n; 81 KiB of stack.
+ * Time at most quadratic in n; 97 KiB of stack.
  */
 uint32_t cegridom_judge_path(const uint8_t *word, size_t n, uint32_t edition,
                              const uint32_t *numbers, size_t number_count, uint32_t *blocks,
@@ -302,7 +307,7 @@ uint32_t cegridom_judge_path(const uint8_t *word, size_t n, uint32_t edition,
  * Refusals: 1; 12; then for each end in turn 3, 4; then 5; then 7.
  * CEGRIDOM_PAGE_BYTES(end_count) bytes suffice, and CEGRIDOM_PAGE_BYTES(CEGRIDOM_MOST_ENDS(n)) for
  * every split.
- * Time at most quadratic in n; 97 KiB of stack.
+ * Time at most quadratic in n; 113 KiB of stack.
  */
 uint32_t cegridom_write_page(const uint8_t *word, size_t n, uint32_t edition, const uint32_t *ends,
                              size_t end_count, uint8_t *out, size_t room, uint32_t *bytes,

@@ -1,4 +1,5 @@
-"""What the bench program prints for a line, from the definitions of document 01.
+"""What the bench program prints for a line, from the definitions of document 01 and of document 02's
+item 7.
 
 Passes are counted from 0 here and a part ends before its end, as Python has it; what is printed
 counts from 1."""
@@ -11,6 +12,12 @@ LIMIT = 1024
 def unit(part):
     """The smallest p at which no pair of passes p apart differs."""
     return next(p for p in range(1, len(part) + 1) if part[p:] == part[:-p])
+
+
+def root(word, first, p):
+    """Of the first p passes of a run, the one where the p passes starting there come first in order of
+    pass code, which is how Python orders bytes."""
+    return min(range(first, first + p), key=lambda q: word[q : q + p])
 
 
 def blocks_and_runs(word):
@@ -70,7 +77,8 @@ def report_of(word):
         return b"refused,1\n"
     ends_from, runs = blocks_and_runs(word)
     lines = [("passes", n)]
-    lines += [("run", k, i + 1, end, p) for k, (i, end, p) in enumerate(runs, 1)]
+    for k, (i, end, p) in enumerate(runs, 1):
+        lines.append(("run", k, i + 1, end, p, root(word, i, p) + 1))
     for name, better in (("fewest", int.__lt__), ("most", int.__gt__)):
         blocks = best_split(n, ends_from, better)
         if blocks is None:

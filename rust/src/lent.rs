@@ -89,6 +89,11 @@ pub struct Run {
     pub last: u32,
     /// Its unit.
     pub unit: u32,
+    /// The position from `first` to `first + unit - 1` where the `unit` symbols starting there come
+    /// first in order of symbol code, from 0 to 255; there is just one. Two runs wind the same unit,
+    /// perhaps from different starting symbols, exactly where their units are equal and the `unit`
+    /// symbols starting at their roots are the same.
+    pub root: u32,
 }
 
 /// One block of a path.
@@ -198,8 +203,8 @@ pub fn part_into(
 ///
 /// let mut table = [Run::default(); 3];
 /// assert_eq!(runs_into(b"aabb", &mut table), Ok(2));
-/// assert_eq!(table[0], Run { first: 1, last: 2, unit: 1 });
-/// assert_eq!(table[1], Run { first: 3, last: 4, unit: 1 });
+/// assert_eq!(table[0], Run { first: 1, last: 2, unit: 1, root: 1 });
+/// assert_eq!(table[1], Run { first: 3, last: 4, unit: 1, root: 3 });
 /// assert_eq!(table[2], Run::default());
 /// ```
 pub fn runs_into(word: &[u8], table: &mut [Run]) -> Result<usize, Refusal> {
@@ -213,7 +218,7 @@ pub fn runs_into(word: &[u8], table: &mut [Run]) -> Result<usize, Refusal> {
 /// there are. A run has one at each position from `first + 2 * unit - 1` to `last`; in edition 2,
 /// from `first + 3 * unit - 1`.
 ///
-/// Refusals: 1, 6, 7. Time at most quadratic in the length; 65 KiB of stack.
+/// Refusals: 1, 6, 7. Time at most quadratic in the length; 81 KiB of stack.
 ///
 /// ```
 /// use cegridom::{nodes_into, Edition};
@@ -500,7 +505,7 @@ pub fn judge_squares(word: &[u8], ends: &[u32]) -> Result<usize, Refusal> {
 /// one run that encloses the block and has its unit.
 ///
 /// Refusals: 1; then for each end in turn 3, 4; then 5; then 7. Time at most quadratic in the
-/// length; 81 KiB of stack.
+/// length; 97 KiB of stack.
 ///
 /// ```
 /// use cegridom::{path_of_split_into, Edition};
@@ -531,7 +536,7 @@ pub fn path_of_split_into(
 /// it.
 ///
 /// Refusals: 1; then for each end in turn 3, 4; then 5. Time at most quadratic in the length;
-/// 81 KiB of stack.
+/// 97 KiB of stack.
 ///
 /// ```
 /// use cegridom::{judge_path, Edition, Refusal, Step};
@@ -563,7 +568,7 @@ pub fn judge_path(word: &[u8], edition: Edition, path: &[Step]) -> Result<usize,
 /// unit, two lower-case hexadecimal digits each, with spaces after a shorter unit.
 ///
 /// Refusals: 1; then for each end in turn 3, 4; then 5; then 7. Time at most quadratic in the
-/// length; 97 KiB of stack.
+/// length; 113 KiB of stack.
 ///
 /// ```
 /// use cegridom::{page_bytes, write_page_into, Edition};

@@ -41,7 +41,7 @@
 //! needs `core` alone. The archive needs the C library's `memset` and `memcpy` and nothing else.
 //!
 //! No call keeps state, so any number of threads may call at once. What the archive takes of the
-//! stack is said in the text of each function, 97 KiB at most; where nothing is said, it is under
+//! stack is said in the text of each function, 113 KiB at most; where nothing is said, it is under
 //! 400 bytes.
 //!
 //! # What is proved

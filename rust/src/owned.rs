@@ -127,8 +127,15 @@ pub fn units(word: &[u8], first: u32, last: u32) -> Result<Vec<u32>, Refusal> {
 ///
 /// ```
 /// let runs = cegridom::runs(b"aabaabaa").unwrap();
-/// let seen: Vec<_> = runs.iter().map(|r| (r.first, r.last, r.unit)).collect();
-/// assert_eq!(seen, [(1, 2, 1), (1, 8, 3), (4, 5, 1), (7, 8, 1)]);
+/// let seen: Vec<_> = runs.iter().map(|r| (r.first, r.last, r.unit, r.root)).collect();
+/// assert_eq!(seen, [(1, 2, 1, 1), (1, 8, 3, 1), (4, 5, 1, 4), (7, 8, 1, 7)]);
+///
+/// // The first and the last run wind the unit `ab`, the last from its second symbol on.
+/// let word = b"ababbaba";
+/// let runs = cegridom::runs(word).unwrap();
+/// let unit = |i: usize| &word[runs[i].root as usize - 1..][..runs[i].unit as usize];
+/// assert_eq!((runs[0].first, runs[0].root, unit(0)), (1, 1, &b"ab"[..]));
+/// assert_eq!((runs[3].first, runs[3].root, unit(3)), (5, 6, &b"ab"[..]));
 /// ```
 pub fn runs(word: &[u8]) -> Result<Vec<Run>, Refusal> {
     // A word has fewer runs than symbols (Bannai et al., The "Runs" Theorem).
@@ -140,7 +147,7 @@ pub fn runs(word: &[u8]) -> Result<Vec<Run>, Refusal> {
 /// The numbers of the runs that have a white node at a position, rising: those that reach it and
 /// have two whole turns (in edition 2, three) up to it.
 ///
-/// Refusals: 1, 6. Allocates a number for each symbol while it works; 65 KiB of stack.
+/// Refusals: 1, 6. Allocates a number for each symbol while it works; 81 KiB of stack.
 ///
 /// ```
 /// use cegridom::{nodes, Edition, Refusal};
@@ -294,7 +301,7 @@ pub fn first_block<'a>(a: &'a [u8], b: &'a [u8], edition: Edition) -> &'a [u8] {
 /// The run number of each block of a split: that of the one run that encloses the block and has its
 /// unit.
 ///
-/// Refusals: 1; then for each end in turn 3, 4; then 5. Allocates its answer; 81 KiB of stack.
+/// Refusals: 1; then for each end in turn 3, 4; then 5. Allocates its answer; 97 KiB of stack.
 ///
 /// ```
 /// use cegridom::{judge_path, path_of_split, Edition, Step};
@@ -316,7 +323,7 @@ pub fn path_of_split(word: &[u8], edition: Edition, ends: &[u32]) -> Result<Vec<
 /// first, last, unit, turns, rest, run number, and the first nine symbols of its unit in hexadecimal
 /// digits. The text of [`write_page_into`] says how a line is laid out.
 ///
-/// Refusals: 1; then for each end in turn 3, 4; then 5. Allocates its answer; 97 KiB of stack.
+/// Refusals: 1; then for each end in turn 3, 4; then 5. Allocates its answer; 113 KiB of stack.
 ///
 /// ```
 /// use cegridom::{write_page, Edition, Refusal};

@@ -31,11 +31,11 @@
 //!     )
 //! };
 //! assert_eq!(Refusal::check(result, index), Ok(()));
-//! assert_eq!((count, table), (2, [1, 2, 1, 3, 4, 1]));
+//! assert_eq!((count, table), (2, [1, 2, 1, 1, 3, 4, 1, 3]));
 //! ```
 
-/// The places of one run in a table: first, last, unit.
-pub const RUN_PLACES: usize = 3;
+/// The places of one run in a table: first, last, unit, root.
+pub const RUN_PLACES: usize = 4;
 
 /// The numbers of one block in a path: the run number, the end.
 pub const STEP_PLACES: usize = 2;

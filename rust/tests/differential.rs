@@ -8,7 +8,7 @@ mod words;
 
 use cegridom::{raw, Choice, Edition, Refusal, Step, Which};
 use reference::Outcome::{self, Accepted, Refused};
-use reference::{Best, Run, EDITIONS, LIMIT};
+use reference::{Best, Run, EDITIONS, LIMIT, RUN_PLACES};
 use words::{every_word, fibonacci, last_differs, thue_morse};
 
 /// What stands in a value before a call, and beside a table.
@@ -492,9 +492,12 @@ impl Checker {
     }
 
     fn runs_sizes(&mut self, known: &Known) {
-        for places in around(3 * known.runs.len(), known.word.len()) {
+        let count = known.runs.len();
+        for places in around(RUN_PLACES * count, known.word.len()) {
             self.runs(known, places);
         }
+        // Three numbers a run are too few.
+        self.runs(known, 3 * count);
     }
 
     fn nodes_sizes(&mut self, known: &Known, edition: u32, position: u32) {
@@ -866,7 +869,90 @@ fn most_squares_have_primitive_halves() {
     println!("primitive halves of most squares: {made} comparisons");
 }
 
+/// Two runs of equal unit have the same symbols from their roots on exactly where the unit of one is
+/// that of the other from some start.
+#[test]
+fn roots_tell_units_apart() {
+    let mut made = 0u64;
+    let mut other_starts = 0u64;
+    let mut look = |w: &[u8]| {
+        let runs = cegridom::runs(w).unwrap();
+        let symbols = |from: u32, unit: u32| &w[from as usize - 1..][..unit as usize];
+        for a in &runs {
+            for b in runs.iter().filter(|b| b.unit == a.unit) {
+                let [x, y] = [a, b].map(|run| symbols(run.first, run.unit));
+                let from_some_start = x.repeat(2).windows(y.len()).any(|part| part == y);
+                let same = symbols(a.root, a.unit) == symbols(b.root, b.unit);
+                assert_eq!(same, from_some_start, "{w:?} {a:?} {b:?}");
+                other_starts += u64::from(same && x != y);
+                made += 1;
+            }
+        }
+    };
+    every_short_word(&mut look);
+    for w in structured(300) {
+        look(&w);
+    }
+    assert!(other_starts > 0);
+    println!("roots of runs of equal unit: {made} comparisons");
+}
+
 // ---- the library against the reference
+
+/// The runs of a word, with just the places that they need.
+fn rooted(checker: &mut Checker, w: &[u8]) {
+    let known = Known::unsplit(w);
+    checker.runs(&known, RUN_PLACES * known.runs.len());
+}
+
+/// Symbols in either order, and on either side of 127.
+#[test]
+fn roots_go_by_symbol_codes() {
+    let mut checker = Checker::default();
+    let spelt = |w: &[u8], alphabet: &[u8]| -> Vec<u8> {
+        w.iter().map(|&symbol| alphabet[symbol as usize]).collect()
+    };
+    for (low, high) in [(0, 255), (1, 128), (100, 200), (127, 128), (128, 129)] {
+        for alphabet in [[low, high], [high, low]] {
+            every_word(2, 12, |w| rooted(&mut checker, &spelt(w, &alphabet)));
+        }
+    }
+    for alphabet in [[1, 127, 128], [128, 127, 1], [255, 0, 128], [127, 255, 128]] {
+        every_word(3, 8, |w| rooted(&mut checker, &spelt(w, &alphabet)));
+    }
+    checker.report("roots of short words");
+}
+
+/// Units wound twice and more, from many starts: random ones, and ones whose parts agree for long.
+#[test]
+fn roots_of_long_units() {
+    let mut checker = Checker::default();
+    let mut numbers = Numbers(6_364_136_223);
+    for (length, starts) in [(20, 20), (233, 40), (1000, 5), (LIMIT / 2, 2)] {
+        let near = length / 2 - 1;
+        let mut agreeing = vec![b'a'; length];
+        (agreeing[near], agreeing[2 * near + 1]) = (b'c', b'b');
+        let units = [
+            numbers.word(length, 2),
+            numbers.word(length, 256),
+            numbers.word(length, 2).iter().map(|s| 127 + s).collect(),
+            last_differs(length),
+            last_differs(length).iter().map(|s| !s).collect(),
+            fibonacci(length),
+            thue_morse(length).iter().map(|s| !s).collect(),
+            agreeing,
+        ];
+        for unit in &units {
+            for _ in 0..starts {
+                let start = numbers.below(length);
+                let symbols = (2 * length + numbers.below(length)).min(LIMIT);
+                let turning = unit.iter().cycle().skip(start).take(symbols);
+                rooted(&mut checker, &turning.copied().collect::<Vec<u8>>());
+            }
+        }
+    }
+    checker.report("roots of long units");
+}
 
 #[test]
 fn short_words_part_runs_nodes() {
@@ -1429,7 +1515,7 @@ fn words_over_the_limit() {
         for w in [vec![b'a'; n], fibonacci(n)] {
             let known = Known::of(&w);
             let all = n as u32;
-            for places in [0, 3, 3 * n] {
+            for places in [0, RUN_PLACES, RUN_PLACES * n] {
                 checker.runs(&known, places);
             }
             let squared = Squared::of(&w);
@@ -1591,8 +1677,9 @@ fn every_refusal_in_its_order() {
     }
     // runs: 1, 7
     expect(&mut checker, 1, &|c| c.runs(&too_long, 0));
-    expect(&mut checker, 7, &|c| c.runs(&known, 11));
-    expect(&mut checker, 0, &|c| c.runs(&known, 12));
+    expect(&mut checker, 7, &|c| c.runs(&known, 12));
+    expect(&mut checker, 7, &|c| c.runs(&known, 15));
+    expect(&mut checker, 0, &|c| c.runs(&known, 16));
     // nodes: 1, 12, 6, 7
     expect(&mut checker, 1, &|c| c.nodes(&too_long, 0, 0, 0));
     expect(&mut checker, 12, &|c| c.nodes(&known, 0, 0, 0));
@@ -1853,6 +1940,7 @@ fn as_runs(flat: &[u32]) -> Vec<cegridom::Run> {
             first: r[0],
             last: r[1],
             unit: r[2],
+            root: r[3],
         })
         .collect()
 }
@@ -1895,7 +1983,7 @@ impl Wrappers {
         self.agree(cegridom::runs(w), said(outcome, |_| as_runs(&flat)));
         for places in around(known.runs.len(), w.len()) {
             let mut lent = vec![cegridom::Run::default(); places];
-            let (outcome, flat) = reference::runs_call(w, &known.runs, 3 * places);
+            let (outcome, flat) = reference::runs_call(w, &known.runs, RUN_PLACES * places);
             self.agree(cegridom::runs_into(w, &mut lent), said(outcome, only));
             assert_eq!(lent, table(&as_runs(&flat), places, Default::default()));
         }

@@ -1,9 +1,9 @@
-//! What the types of the crate promise: refusals and their numbers, lengths that do not fit, the
-//! squares of the documents, a page byte for byte, the first block as a part of the caller's bytes,
-//! what the units of a part, squares, a page and the calls on two words take of memory, and the
-//! example `fewest`.
+//! What the types of the crate promise: refusals and their numbers, lengths that do not fit, runs with
+//! their roots, the squares of the documents, a page byte for byte, the first block as a part of the
+//! caller's bytes, what the units of a part, runs, squares, a page and the calls on two words take of
+//! memory, and the example `fewest`.
 
-use cegridom::{Choice, Edition, Refusal, Which, LIMIT};
+use cegridom::{raw, Choice, Edition, Refusal, Run, Which, LIMIT};
 use std::alloc::{GlobalAlloc, Layout, System};
 use std::cell::Cell;
 use std::error::Error;
@@ -109,6 +109,46 @@ fn the_archive_has_the_version_of_the_crate() {
     let number = |text: &str| text.parse::<u32>().unwrap();
     assert_eq!(major, number(env!("CARGO_PKG_VERSION_MAJOR")));
     assert_eq!(minor, number(env!("CARGO_PKG_VERSION_MINOR")));
+}
+
+fn runs_are(word: &[u8], expected: &[[u32; 4]]) {
+    let run = |&[first, last, unit, root]: &[u32; 4]| Run {
+        first,
+        last,
+        unit,
+        root,
+    };
+    let expected: Vec<Run> = expected.iter().map(run).collect();
+    assert_eq!(cegridom::runs(word).as_ref(), Ok(&expected));
+    // Just the places that they need, and one fewer.
+    let mut table = vec![Run::default(); expected.len()];
+    assert_eq!(cegridom::runs_into(word, &mut table), Ok(expected.len()));
+    assert_eq!(table, expected);
+    if let Some(fewer) = expected.len().checked_sub(1) {
+        let mut table = vec![Run::default(); fewer];
+        let refused = cegridom::runs_into(word, &mut table);
+        assert_eq!(refused, Err(Refusal::TooFewPlaces));
+        assert_eq!(table, vec![Run::default(); fewer]);
+    }
+}
+
+#[test]
+fn runs_have_roots() {
+    runs_are(b"", &[]);
+    runs_are(b"ab", &[]);
+    let rows = [[1, 2, 1, 1], [1, 8, 3, 1], [4, 5, 1, 4], [7, 8, 1, 7]];
+    runs_are(b"aabaabaa", &rows);
+    // The first and the last wind one unit from different starts.
+    let rows = [[1, 4, 2, 1], [2, 7, 3, 3], [4, 5, 1, 4], [5, 8, 2, 6]];
+    runs_are(b"ababbaba", &rows);
+    runs_are(b"cabcabca", &[[1, 8, 3, 2]]);
+    runs_are(b"abacabacab", &[[1, 10, 4, 1]]);
+    // Symbols above 127 come after the others.
+    runs_are(b"\x80\x01\x80\x01", &[[1, 4, 2, 2]]);
+    runs_are(b"\x7f\x80\x7f\x80", &[[1, 4, 2, 1]]);
+    runs_are(b"\xc8\x64\xc8\x64\xc8", &[[1, 5, 2, 2]]);
+    runs_are(b"\x80\xff\x80\x7f\x80\xff\x80\x7f", &[[1, 8, 4, 4]]);
+    runs_are(&[b'a'; LIMIT], &[[1, LIMIT as u32, 1, 1]]);
 }
 
 #[test]
@@ -286,6 +326,24 @@ fn a_refused_part_allocates_no_more_than_the_word() {
         let said = part_allocations(&too_long, first, last);
         assert_eq!(said, ([0; 3], [Some(Refusal::TooLong); 3]));
     }
+}
+
+#[test]
+fn runs_allocate_a_run_a_symbol() {
+    let longest = [b'a'; LIMIT];
+    for word in [&b"aabaabaa"[..], b"ab", b"", &longest] {
+        let places = raw::RUN_PLACES * word.len();
+        let (numbers, runs) = numbers_allocated(|| cegridom::runs(word));
+        // The answer may be moved to a table of its own size.
+        let answer = raw::RUN_PLACES * runs.unwrap().len();
+        assert!((places..=places + answer).contains(&numbers), "{numbers}");
+    }
+    let mut table = [Run::default(); 4];
+    let said = numbers_allocated(|| cegridom::runs_into(b"aabaabaa", &mut table));
+    assert_eq!(said, (0, Ok(4)));
+    // Nothing, where the word is too long.
+    let said = numbers_allocated(|| cegridom::runs(&[b'a'; LIMIT + 1]));
+    assert_eq!(said, (0, Err(Refusal::TooLong)));
 }
 
 #[test]

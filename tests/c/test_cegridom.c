@@ -225,25 +225,202 @@ static void test_unit_places(void) {
     CHECK(CEGRIDOM_UNIT_PLACES(least, most) == (size_t)most + 1);
 }
 
+/* What the runs call is lent of the table, so that a place before it is watched too. */
+static uint32_t *const records = table + 1;
+
+static void runs_asked(const uint8_t *word, size_t n, uint32_t *lent, size_t places,
+                       uint32_t result, uint32_t count) {
+    fill(table, TABLE_PLACES);
+    reset();
+    CHECK(cegridom_runs(word, n, lent, places, &a, &index_) == result);
+    CHECK(a == count && index_ == 0);
+}
+
+static void runs_accepted(const uint8_t *word, size_t n, const uint32_t (*rows)[4], uint32_t count,
+                          size_t places) {
+    runs_asked(word, n, records, places, CEGRIDOM_ACCEPTED, count);
+    CHECK(memcmp(records, rows, count * sizeof *rows) == 0);
+    CHECK(table[0] == GUARD && untouched(records + 4 * count, TABLE_PLACES - 1 - 4 * count));
+}
+
+static void runs_refused(const uint8_t *word, size_t n, uint32_t *lent, size_t places,
+                         uint32_t result) {
+    runs_asked(word, n, lent, places, result, 0);
+    CHECK(untouched(table, TABLE_PLACES));
+}
+
+/* The runs of a word, in a table with just the places that they need, with more, and with fewer:
+   those for three numbers a run are too few. */
+static void listed(const uint8_t *word, size_t n, const uint32_t (*rows)[4], uint32_t count) {
+    size_t needed = CEGRIDOM_RUN_PLACES(count);
+    runs_accepted(word, n, rows, count, needed);
+    runs_accepted(word, n, rows, count, needed + 1);
+    runs_accepted(word, n, rows, count, TABLE_PLACES - 2);
+    if (count > 0) {
+        runs_refused(word, n, records, needed - 1, CEGRIDOM_TOO_FEW_PLACES);
+        runs_refused(word, n, records, 3 * count, CEGRIDOM_TOO_FEW_PLACES);
+        runs_refused(word, n, NULL, 0, CEGRIDOM_TOO_FEW_PLACES);
+    } else {
+        runs_asked(word, n, NULL, 0, CEGRIDOM_ACCEPTED, 0);
+    }
+}
+
+/* A word and its runs: first, last, unit and root of each. */
+struct runs_case {
+    const uint8_t *word;
+    size_t n;
+    uint32_t count, rows[10][4];
+};
+
+static const struct runs_case runs_cases[] = {
+    {NULL, 0, 0, {{0}}},
+    {WORD("ab"), 0, {{0}}},
+    {WORD("aa"), 1, {{1, 2, 1, 1}}},
+    {WORD("aabaabaa"), 4, {{1, 2, 1, 1}, {1, 8, 3, 1}, {4, 5, 1, 4}, {7, 8, 1, 7}}},
+    /* runs 1 and 4 wind one unit from different starts */
+    {WORD("ababbaba"), 4, {{1, 4, 2, 1}, {2, 7, 3, 3}, {4, 5, 1, 4}, {5, 8, 2, 6}}},
+    {WORD("abababa"), 1, {{1, 7, 2, 1}}},
+    {WORD("bababab"), 1, {{1, 7, 2, 2}}},
+    {WORD("cabcabca"), 1, {{1, 8, 3, 2}}},
+    /* roots that more than the first symbol decides */
+    {WORD("abacabacab"), 1, {{1, 10, 4, 1}}},
+    {WORD("abaaabaaabaa"), 4, {{1, 12, 4, 3}, {3, 5, 1, 3}, {7, 9, 1, 7}, {11, 12, 1, 11}}},
+    /* the last position that a root can have */
+    {WORD("bbbabbbabbbc"), 4, {{1, 3, 1, 1}, {1, 11, 4, 4}, {5, 7, 1, 5}, {9, 11, 1, 9}}},
+    {WORD("abaabaababaabaabababa"),
+     10,
+     {{1, 9, 3, 3},
+      {1, 19, 8, 3},
+      {3, 4, 1, 3},
+      {4, 14, 5, 6},
+      {6, 7, 1, 6},
+      {7, 11, 2, 7},
+      {9, 17, 3, 11},
+      {11, 12, 1, 11},
+      {14, 15, 1, 14},
+      {15, 21, 2, 15}}},
+    {WORD("aabaabaacbbcbbcbb"),
+     8,
+     {{1, 2, 1, 1},
+      {1, 8, 3, 1},
+      {4, 5, 1, 4},
+      {7, 8, 1, 7},
+      {9, 17, 3, 10},
+      {10, 11, 1, 10},
+      {13, 14, 1, 13},
+      {16, 17, 1, 16}}},
+    /* symbols above 127 come after the others */
+    {WORD("\200\1\200\1"), 1, {{1, 4, 2, 2}}},
+    {WORD("\177\200\177\200"), 1, {{1, 4, 2, 1}}},
+    {WORD("\310\144\310\144\310"), 1, {{1, 5, 2, 2}}},
+    {WORD("\377\0\377\0"), 1, {{1, 4, 2, 2}}},
+    {WORD("\200\377\200\177\200\377\200\177"), 1, {{1, 8, 4, 4}}},
+};
+
 static void test_runs(void) {
-    fill(table, 13);
-    reset();
-    CHECK(cegridom_runs(WORD("aabaabaa"), table, 12, &a, &index_) == CEGRIDOM_ACCEPTED);
-    CHECK(a == 4 && index_ == 0);
-    CHECK(BEGINS(table, 1, 2, 1, 1, 8, 3, 4, 5, 1, 7, 8, 1));
-    fill(table, 13);
-    reset();
-    CHECK(cegridom_runs(WORD("aabaabaa"), table, 11, &a, &index_) == CEGRIDOM_TOO_FEW_PLACES);
-    CHECK(a == 0 && index_ == 0 && untouched(table, 13));
-    reset();
-    CHECK(cegridom_runs(NULL, 0, NULL, 0, &a, &index_) == CEGRIDOM_ACCEPTED);
-    CHECK(a == 0 && index_ == 0);
-    reset();
-    CHECK(cegridom_runs(longest, CEGRIDOM_LIMIT, table, 3, &a, &index_) == CEGRIDOM_ACCEPTED);
-    CHECK(a == 1 && index_ == 0 && BEGINS(table, 1, CEGRIDOM_LIMIT, 1));
-    reset();
-    CHECK(cegridom_runs(longest, CEGRIDOM_LIMIT + 1, NULL, 0, &a, &index_) == CEGRIDOM_TOO_LONG);
-    CHECK(a == 0 && index_ == 0);
+    CHECK(CEGRIDOM_RUN_PLACES(0) == 0 && CEGRIDOM_RUN_PLACES(1) == 4);
+    CHECK(2 * CEGRIDOM_RUN_PLACES(1 | 2) == 24);
+    for (size_t i = 0; i < sizeof runs_cases / sizeof *runs_cases; i++) {
+        const struct runs_case *k = &runs_cases[i];
+        listed(k->word, k->n, k->rows, k->count);
+    }
+    static const uint32_t whole[][4] = {{1, CEGRIDOM_LIMIT, 1, 1}};
+    listed(longest, CEGRIDOM_LIMIT, whole, 1);
+    /* 1 comes before 7 */
+    runs_refused(longest, CEGRIDOM_LIMIT + 1, NULL, 0, CEGRIDOM_TOO_LONG);
+    runs_refused(longest, CEGRIDOM_LIMIT + 1, records, TABLE_PLACES - 2, CEGRIDOM_TOO_LONG);
+}
+
+/* A unit of so many symbols, two or more, which are x but for y at place k, wound twice: the runs
+   are the whole word and the stretches of x. */
+static void twice_wound(uint32_t unit, uint32_t k, uint8_t x, uint8_t y) {
+    static uint8_t word[CEGRIDOM_LIMIT];
+    uint32_t rows[4][4], count = 0;
+    const uint32_t stretches[][2] = {{1, k - 1}, {k + 1, k + unit - 1}, {k + unit + 1, 2 * unit}};
+    for (uint32_t i = 0; i < 2 * unit; i++) {
+        word[i] = i % unit == k - 1 ? y : x;
+    }
+    for (size_t i = 0; i < 3; i++) {
+        uint32_t first = stretches[i][0], last = stretches[i][1];
+        if (first < last) {
+            const uint32_t row[] = {first, last, 1, first};
+            memcpy(rows[count++], row, sizeof row);
+        }
+        if (i == 0) {
+            /* of the units, the one that starts with y comes first, or the one right after y */
+            const uint32_t row[] = {1, 2 * unit, unit, y < x ? k : k % unit + 1};
+            memcpy(rows[count++], row, sizeof row);
+        }
+    }
+    listed(word, 2 * unit, (const uint32_t(*)[4])rows, count);
+}
+
+/* A unit that comes first among those that wind it from other starts: from each of these it has its
+   root, and the symbols from there on are the same. */
+static void wound_from_each(const uint8_t *unit, uint32_t length) {
+    uint8_t word[32];
+    for (uint32_t start = 0; start < length; start++) {
+        uint32_t root = start == 0 ? 1 : length - start + 1, found = 0;
+        for (uint32_t i = 0; i < 2 * length; i++) {
+            word[i] = unit[(start + i) % length];
+        }
+        fill(table, TABLE_PLACES);
+        reset();
+        CHECK(cegridom_runs(word, 2 * length, records, TABLE_PLACES - 2, &a, &index_) == 0);
+        for (uint32_t i = 0; i < a; i++) {
+            const uint32_t *row = records + CEGRIDOM_RUN_PLACES(i);
+            found += row[0] == 1 && row[1] == 2 * length && row[2] == length && row[3] == root;
+        }
+        CHECK(found == 1 && memcmp(word + root - 1, unit, length) == 0);
+    }
+}
+
+#define FROM_EACH(unit) wound_from_each(WORD(unit))
+
+static void test_roots(void) {
+    /* any two symbols */
+    for (uint32_t x = 0; x < 256; x++) {
+        int agree = 1;
+        for (uint32_t y = 0; y < 256; y++) {
+            const uint8_t word[] = {(uint8_t)x, (uint8_t)y, (uint8_t)x, (uint8_t)y};
+            if (x != y) {
+                fill(table, 5);
+                agree &= cegridom_runs(word, 4, table, 4, &a, &index_) == 0 && a == 1 &&
+                         BEGINS(table, 1, 4, 2, x < y ? 1 : 2);
+            }
+        }
+        CHECK(agree);
+    }
+    static const uint8_t pairs[][2] = {{'a', 'b'}, {'b', 'a'}, {127, 128},
+                                       {128, 127}, {0, 255},   {255, 0}};
+    static const uint32_t lengths[] = {2, 3, 4, 5, 16};
+    for (size_t i = 0; i < sizeof pairs / sizeof *pairs; i++) {
+        for (size_t j = 0; j < sizeof lengths / sizeof *lengths; j++) {
+            for (uint32_t k = 1; k <= lengths[j]; k++) {
+                twice_wound(lengths[j], k, pairs[i][0], pairs[i][1]);
+            }
+        }
+    }
+    FROM_EACH("aabab");
+    FROM_EACH("aabaabab");
+    FROM_EACH("aabaacaabaad");
+    FROM_EACH("\1\1\200\1\377");
+    FROM_EACH("\177\200\177\377");
+    FROM_EACH("\200\200\201\200\377");
+    /* the longest units */
+    twice_wound(CEGRIDOM_LIMIT / 2, 1000, 'a', 'b');
+    twice_wound(CEGRIDOM_LIMIT / 2, CEGRIDOM_LIMIT / 2, 255, 127);
+    /* a...ac and then a...ab: they agree for long, and the second comes first */
+    static uint8_t word[CEGRIDOM_LIMIT];
+    static const uint32_t rows[][4] = {{1, 1023, 1, 1},
+                                       {1, 4096, 2048, 1025},
+                                       {1025, 2047, 1, 1025},
+                                       {2049, 3071, 1, 2049},
+                                       {3073, 4095, 1, 3073}};
+    for (uint32_t i = 0; i < CEGRIDOM_LIMIT; i++) {
+        word[i] = i % 1024 < 1023 ? 'a' : i % 2048 == 1023 ? 'c' : 'b';
+    }
+    listed(word, CEGRIDOM_LIMIT, rows, 5);
 }
 
 /* The runs of aaaaaaabababa: 1 to 7 with unit 1, 7 to 13 with unit 2. Its blocks of edition 2 are
@@ -1393,6 +1570,7 @@ int main(void) {
     test_part();
     test_longest_part();
     test_runs();
+    test_roots();
     test_nodes();
     test_best_split();
     test_best_squares();

@@ -21,21 +21,36 @@ W15 = b"aaabaaabaaabaaa"  # for three turns what W8 is for two
 LARGEST = 4294967295
 
 RUNS = [  # word, places lent
-    (W8, 14),
+    (W8, 18),
+    (W8, 16),
+    (W8, 15),
     (W8, 12),
-    (W8, 11),
     (W8, 0),
     (b"", 0),
     (b"", 2),
     (b"ab", 1),
-    (b"aaaa", 3),
-    (b"ababa", 4),
+    (b"aaaa", 4),
+    (b"ababa", 5),
     (W21, 64),
     (W17, 64),
-    (AB4, 4),
-    (A6B3C3, 10),
-    (A4, 7),
-    (W15, 16),
+    (AB4, 5),
+    (A6B3C3, 13),
+    (A4, 9),
+    (W15, 21),
+    # one unit from different starting passes
+    (b"ababbaba", 17),
+    (b"bababab", 4),
+    (b"cabcabca", 4),
+    # roots that more than the first pass decides
+    (b"abacabacab", 4),
+    (b"abaaabaaabaa", 17),
+]
+
+SYMBOLS = [  # name, word; with five places lent
+    ("128 1 twice", [128, 1] * 2),
+    ("127 128 twice", [127, 128] * 2),
+    ("200 100 twice and 200", [200, 100] * 2 + [200]),
+    ("128 255 128 127 twice", [128, 255, 128, 127] * 2),
 ]
 
 NODES = [  # word, edition, position, places lent
@@ -286,6 +301,9 @@ def show_calls():
     for word, places in RUNS:
         outcome, table = runs(word, lent(places))
         print(fields("runs", word, places, outcome) + listed(table))
+    for name, word in SYMBOLS:
+        outcome, table = runs(bytes(word), lent(5))
+        print(fields("runs", name, outcome) + listed(table))
     for word, edition, position, places in NODES:
         outcome, table = nodes(word, edition, position, lent(places))
         print(fields("nodes", word, edition, position, places, outcome) + listed(table))

@@ -1,6 +1,6 @@
 #!/usr/bin/env python3
-"""The definitions and calls of document 01 and of document 02's items 1 to 4 and 6, as plainly as the
-documents state them, for the expected outputs of the test programs. Nothing is taken from the
+"""The definitions and calls of document 01 and of document 02's items 1 to 4, 6 and 7, as plainly as
+the documents state them, for the expected outputs of the test programs. Nothing is taken from the
 library or from its runs.
 
 A word (sequence) is a bytes object, a joint m stands after pass number m, and the part between the
@@ -62,9 +62,33 @@ def is_block(part, k):
     return is_square(part) if k == SQUARES else len(part) >= k * unit(part)
 
 
+def comes_before(part, other):
+    """Of two parts of one length, in order of pass code: the first pass where they differ decides."""
+    for code, other_code in zip(part, other):
+        if code != other_code:
+            return code < other_code
+    return False
+
+
+def root(word, first, p):
+    """The position from first to first + p - 1 where the p passes starting there come first in order
+    of pass code: before those at every other such position. Of a run there is just one."""
+    positions = range(first, first + p)
+
+    def passes_at(q):
+        return word[q - 1 : q - 1 + p]
+
+    (q,) = [
+        q
+        for q in positions
+        if all(comes_before(passes_at(q), passes_at(other)) for other in positions if other != q)
+    ]
+    return q
+
+
 @lru_cache(maxsize=None)
 def runs_of(word):
-    """(first, last, unit) of each run, in the order of the run numbers: every first and last is
+    """(first, last, unit, root) of each run, in the order of the run numbers: every first and last is
     tried, and the two conditions are those of the document, with position 1 at place 0. Runs are
     those of edition 1."""
     n = len(word)
@@ -78,7 +102,7 @@ def runs_of(word):
                 and (first == 1 or word[first - 2] != word[first + p - 2])
                 and (last == n or word[last] != word[last - p])
             ):
-                found.append((first, last, p))
+                found.append((first, last, p, root(word, first, p)))
     return sorted(found, key=lambda run: (run[0], run[2]))
 
 
@@ -86,7 +110,7 @@ def nodes_at(word, k, position):
     """The numbers of the runs with a white node at a position, rising."""
     return [
         number
-        for number, (first, last, p) in enumerate(runs_of(word), 1)
+        for number, (first, last, p, _) in enumerate(runs_of(word), 1)
         if first + k * p - 1 <= position <= last
     ]
 
@@ -165,7 +189,7 @@ def part(word, edition, first, last, table):
 
 
 def runs(word, table):
-    """Runs: 1, 7."""
+    """Runs: 1, 7. Four numbers a run."""
     if len(word) > LIMIT:
         return refused(1), table
     numbers = [number for run in runs_of(word) for number in run]
@@ -277,7 +301,7 @@ def path_of_split(word, edition, ends, table):
     for a, b in zip([0] + ends, ends):
         (number,) = [
             number
-            for number, (first, last, p) in enumerate(runs_of(word), 1)
+            for number, (first, last, p, _) in enumerate(runs_of(word), 1)
             if first <= a + 1 and b <= last and p == unit(word[a:b])
         ]
         numbers.append(number)
@@ -298,7 +322,7 @@ def judge_path(word, edition, numbers):
         number = numbers[2 * index - 2]
         if not 1 <= number <= len(runs_of(word)):
             return False
-        first, last, p = runs_of(word)[number - 1]
+        first, last, p, _ = runs_of(word)[number - 1]
         return first <= a + 1 and b <= last and b - a >= TURNS[edition] * p
 
     return verdict(len(word), numbers[1::2], fits)
@@ -419,7 +443,7 @@ def paths_of(word, k, joint=0):
     """Every path of the graph from a joint to joint n, as the run number and the joint of each drop."""
     if joint == len(word):
         yield []
-    for number, (_, _, p) in enumerate(runs_of(word), 1):
+    for number, (_, _, p, _) in enumerate(runs_of(word), 1):
         position = joint + k * p  # where the diagonal leads, if there is a white node
         while number in nodes_at(word, k, position):
             for rest in paths_of(word, k, position):
@@ -536,6 +560,20 @@ SQUARES_JUDGED = [  # word, ends, outcome; worked out by hand
     (b"", [0], refused(3, 1)),
 ]
 
+RUNS_OF = [  # word, and first, last, unit and root of each run; worked out by hand
+    (b"aabaabaa", [(1, 2, 1, 1), (1, 8, 3, 1), (4, 5, 1, 4), (7, 8, 1, 7)]),
+    # the first and the last wind one unit from different starting passes
+    (b"ababbaba", [(1, 4, 2, 1), (2, 7, 3, 3), (4, 5, 1, 4), (5, 8, 2, 6)]),
+    (b"bababa", [(1, 6, 2, 2)]),
+    (b"cabcabca", [(1, 8, 3, 2)]),
+    (b"abacabacab", [(1, 10, 4, 1)]),
+    (b"baabaabaa", [(1, 9, 3, 2), (2, 3, 1, 2), (5, 6, 1, 5), (8, 9, 1, 8)]),
+    # codes above 127 come after the others
+    (b"\x80\x01\x80\x01", [(1, 4, 2, 2)]),
+    (b"\x7f\x80\x7f\x80", [(1, 4, 2, 1)]),
+    (b"\x80\xff\x80\x7f\x80\xff\x80\x7f", [(1, 8, 4, 4)]),
+]
+
 JUDGED = [  # on aabaabaa, edition 1: ends, and the document's refusal
     ([3, 8], refused(4, 1)),
     ([2, 2, 8], refused(3, 2)),
@@ -632,6 +670,25 @@ def compare_squares_with_examples():
     expect(not is_primitive(b"abab") and is_primitive(b"aba") and is_primitive(b"a"), "primitive")
 
 
+def compare_runs(word):
+    """The call with just the places that the runs need, with one more and with one fewer; and the roots
+    with the rotations of the units, as Python orders them."""
+    found = runs_of(word)
+    numbers = [number for run in found for number in run]
+    needed = 4 * len(found)
+    for table in [7] * needed, [7] * (needed + 1):
+        given = accepted(len(found)), numbers + table[needed:]
+        expect(runs(word, table) == given, "runs of", word, len(table))
+    if found:
+        few = [7] * (needed - 1)
+        expect(runs(word, few) == (refused(7), few), "few places for the runs of", word)
+    for first, _, p, q in found:
+        passes = word[first - 1 : first - 1 + p]
+        rotations = [passes[i:] + passes[:i] for i in range(p)]
+        expect(is_primitive(passes), "unit of", word, first, p)
+        expect(q == first + rotations.index(min(rotations)), "root of", word, first, p)
+
+
 def compare_with_examples(edition):
     for word, *both in EXAMPLES[edition]:
         for choice, ends in zip((FEWEST, MOST), both):
@@ -664,7 +721,10 @@ def compare_with_document():
         for a, b in (longer, b"a"), (b"a", longer):
             expect(which_first(a, b, edition, kept) == (refused(number), kept), "refusal", number)
             expect(first_block(a, b, edition, kept) == (b"", kept), "the part after", number)
-    expect(runs_of(b"aabaabaa") == [(1, 2, 1), (1, 8, 3), (4, 5, 1), (7, 8, 1)], "runs of aabaabaa")
+    for word, found in RUNS_OF:
+        expect(runs_of(word) == found, "runs of", word)
+        compare_runs(word)
+    expect(runs(b"a" * 4097, [7]) == (refused(1), [7]), "refusal 1 of runs")
 
 
 def main():
@@ -677,6 +737,10 @@ def main():
         compare_with_examples(edition)
         for word in words + longer:
             compare_with_enumeration(word, edition)
+    # codes on both sides of 127 too
+    coded = words + [bytes(codes) for codes in product(b"\x01\x7f\x80", repeat=7)]
+    for word in coded:
+        compare_runs(word)
     # few of the short words have a split into squares; that of 18 passes would take too long
     squared = words + [word for word, *_ in SQUARES_OF if len(word) < 13]
     ends = [word for word in words[:31] if len(word) % 2 == 0]
@@ -692,7 +756,8 @@ def main():
     print(
         f"definitions: {len(words + longer)} words compared with the enumeration of their splits and"
         f" paths, and {len(few) ** 2} pairs with that of their splits, in both editions;"
-        f" {len(set(squared))} words with that of their splits into squares"
+        f" {len(set(squared))} words with that of their splits into squares;"
+        f" the roots of {len(coded)} words with the rotations of their units"
     )
 
 

@@ -58,6 +58,6 @@ pub squares-judged : resultOf (squaresJudgedOutcome word-aaaa (2 ∷ 3 ∷ [])) 
 unfolding squaresJudgedOutcome verdict square?
 squares-judged = refl
 
--- 0.7
-pub version-is-0-7 : version ≡ 7
-version-is-0-7 = refl
+-- 0.8
+pub version-is-0-8 : version ≡ 8
+version-is-0-8 = refl

@@ -26,7 +26,7 @@ use periods::PartAnswer;
 use plans::PlanAnswer;
 
 // The version of this interface, 1,000 × major + minor.
-pub const VERSION: u32 = 7;
+pub const VERSION: u32 = 8;
 
 // Takes an answer that gives one number apart.
 fn hand_over(answer: Counted, count: &mut u32, index: &mut u32) -> u32
@@ -165,7 +165,7 @@ pub extern "C" fn cegridom_part(
     hand_over_part(answer, unit, turns, rest, block, index)
 }
 
-// Runs: first, last and unit of each run, and their count. Refusals: 1, 7.
+// Runs: first, last, unit and root of each run, and their count. Refusals: 1, 7.
 #[no_mangle]
 pub extern "C" fn cegridom_runs(
     w: &[u8],

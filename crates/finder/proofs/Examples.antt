@@ -8,14 +8,14 @@ use Rattle.finder.specs.Find.{findRun, findIn}
 
 -- the flat table of its four runs, and a number more
 abbrev table : List ℕ
-table = 1 ∷ 2 ∷ 1 ∷ 1 ∷ 8 ∷ 3 ∷ 4 ∷ 5 ∷ 1 ∷ 7 ∷ 8 ∷ 1 ∷ 9 ∷ []
+table = 1 ∷ 2 ∷ 1 ∷ 1 ∷ 1 ∷ 8 ∷ 3 ∷ 1 ∷ 4 ∷ 5 ∷ 1 ∷ 4 ∷ 7 ∷ 8 ∷ 1 ∷ 7 ∷ 9 ∷ []
 
 abbrev four : List Record
 four =
-    record { first = 1; last = 2; period = 1 }
-    ∷ record { first = 1; last = 8; period = 3 }
-    ∷ record { first = 4; last = 5; period = 1 }
-    ∷ record { first = 7; last = 8; period = 1 }
+    record { first = 1; last = 2; period = 1; root = 1 }
+    ∷ record { first = 1; last = 8; period = 3; root = 1 }
+    ∷ record { first = 4; last = 5; period = 1; root = 4 }
+    ∷ record { first = 7; last = 8; period = 1; root = 7 }
     ∷ []
 
 pub records-of-aabaabaa : records 4 table ≡ four

@@ -24,6 +24,7 @@ pub fn held(table: &[u32], count: usize) -> [Record; RECORDS]
         first: 0,
         last: 0,
         period: 0,
+        root: 0,
     }; RECORDS];
     let mut i: usize = 0;
     while i < count {

@@ -17,24 +17,19 @@ use Rattle.nodes.specs.Node.{White}
 use Rattle.runs.specs.Table.{runsOf}
 use Rattle.runs.proofs.InPlace.{RunIn, piece-smallest, run-unique, run-exists, run-in, run-out}
 use Rattle.runs.proofs.Listed.{runs-listed}
-use Rattle.runs.proofs.Entries.{entry-one-row, entry-one-number}
+use Rattle.runs.proofs.Entries.{entry-one-row, entry-same}
 use Rattle.factors.specs.Factorization.{Chain}
 use Rattle.repetitions.specs.Block.{Block}
 use Rattle.paths.specs.Graph.{Node, black, white, Diagonal, Walk, Path, drops, encoding, runsOfPairs, endsOfPairs, Segment, Segments}
 use Rattle.repetitions.proofs.Blocks.{BlockIn, block-in, block-out}
 
--- ---- nodes and records
+-- ---- nodes
 
 pub white-black : (i x t : ℕ) → white i x ≡ black t → ⊥
 white-black i x t e = let z : _≡_ {A = ℕ} 0 1 = cc in omega arith
 
 black-same : (a b : ℕ) → black a ≡ black b → a ≡ b
 black-same a b e = cc
-
-row-same : (r s : Record) → r .first ≡ s .first → r .last ≡ s .last → r .period ≡ s .period → r ≡ s
-row-same r s a b c =
-    ap (λ (v : ℕ). record { first = v; last = r .last; period = r .period }) a
-    ∙ ap₂ (λ (v u : ℕ). record { first = s .first; last = v; period = u }) b c
 
 -- ---- every second number of an encoding is a drop
 
@@ -295,8 +290,8 @@ module _ (allowed : ℕ → Bool) (k : ℕ) (w : List ℕ) where
                 let c = L .complete (suc A) B (M .period) (run-out w A B (M .period) R) in (
                   c .0,
                   record {
-                    run = record { first = suc A; last = B; period = M .period };
-                    numbered = c .1;
+                    run = record { first = suc A; last = B; period = M .period; root = c .1 };
+                    numbered = c .2;
                     starts = omega arith;
                     ends = b;
                     long = M .long;
@@ -306,8 +301,7 @@ module _ (allowed : ℕ → Bool) (k : ℕ) (w : List ℕ) where
 
     -- CLAIM: of one run only
     pub segment-one-number : (r s i j : ℕ) → Segment allowed k w r i j → Segment allowed k w s i j → r ≡ s
-    segment-one-number r s i j S Z =
-        entry-one-number (runsOf w) (L .sorted) r s (Z .run) (subst (λ (v : Record). Entry (runsOf w) r v) one (S .numbered)) (Z .numbered)
+    segment-one-number r s i j S Z = entry-same (runsOf w) (L .sorted) r s (S .run) (Z .run) (S .numbered) (Z .numbered) first p
       where
         p : S .run .period ≡ Z .run .period
         p = smallest-unique (symbol w) i j (S .run .period) (Z .run .period) (segment-smallest r i j S) (segment-smallest s i j Z)
@@ -323,9 +317,6 @@ module _ (allowed : ℕ → Bool) (k : ℕ) (w : List ℕ) where
 
         first : S .run .first ≡ Z .run .first
         first = omega (arith, ends .0, L .sound r (S .run) (S .numbered) .starts, L .sound s (Z .run) (Z .numbered) .starts)
-
-        one : S .run ≡ Z .run
-        one = row-same (S .run) (Z .run) first (ends .1) p
 
     -- ---- lists of segments and chains of blocks
 

@@ -11,7 +11,7 @@ use Rattle.periods.specs.Edition.{badEdition?, turnsOf}
 use Rattle.runs.specs.declared.Record.{Record}
 use Rattle.runs.specs.Run.{Entry}
 use Rattle.nodes.specs.Node.{White}
-use Rattle.runs.specs.Table.{run?, runBetween, rowsAt, rowsBefore, runsOf}
+use Rattle.runs.specs.Table.{run?, leastStart, rootOf, runBetween, rowsAt, rowsBefore, runsOf}
 use Rattle.paths.specs.LookUp.{entryOf}
 use Rattle.factors.specs.Verdict.{verdict}
 use Rattle.paths.specs.Graph.{Node, black, white, Path, total, drops, encoding}
@@ -44,17 +44,17 @@ path-of-3-8 = refl
 -- ---- three paths, node by node
 
 abbrev run-1 : Record
-run-1 = record { first = 1; last = 2; period = 1 }
+run-1 = record { first = 1; last = 2; period = 1; root = 1 }
 
 abbrev run-2 : Record
-run-2 = record { first = 1; last = 8; period = 3 }
+run-2 = record { first = 1; last = 8; period = 3; root = 1 }
 
 numbered-1 : Entry (runsOf word-aabaabaa) 1 run-1
-unfolding runsOf rowsBefore rowsAt runBetween run? repetition? smallestPeriod
+unfolding runsOf rowsBefore rowsAt runBetween run? rootOf leastStart repetition? smallestPeriod
 numbered-1 = refl
 
 numbered-2 : Entry (runsOf word-aabaabaa) 2 run-2
-unfolding runsOf rowsBefore rowsAt runBetween run? repetition? smallestPeriod
+unfolding runsOf rowsBefore rowsAt runBetween run? rootOf leastStart repetition? smallestPeriod
 numbered-2 = refl
 
 -- "from first+2×unit−1 to last": run 1 has a white node at 2, run 2 at 6, 7 and 8
@@ -120,10 +120,10 @@ weight-of-8 = refl
 -- edition 2: abababab has one run, of unit 2, with white nodes "from first+3×unit−1" on, 6 to 8; "a diagonal spans 3 × unit": from joint 0 to 6, then two flat
 -- edges and the drop to joint 8
 abbrev run-of-abababab : Record
-run-of-abababab = record { first = 1; last = 8; period = 2 }
+run-of-abababab = record { first = 1; last = 8; period = 2; root = 1 }
 
 numbered-abababab : Entry (runsOf word-abababab) 1 run-of-abababab
-unfolding runsOf rowsBefore rowsAt runBetween run? repetition? smallestPeriod
+unfolding runsOf rowsBefore rowsAt runBetween run? rootOf leastStart repetition? smallestPeriod
 numbered-abababab = refl
 
 white-in-2 : (x : ℕ) → 6 ≤ x → x ≤ 8 → White anyPeriod 3 (runsOf word-abababab) 1 x

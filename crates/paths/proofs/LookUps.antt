@@ -1,6 +1,6 @@
 -- What the look-ups give: the number of the run with a first and a period, the run with a number, the count at a boundary. By the order of the table: two
 -- entries with one first and one period are one. Assumes nothing.
-use mathlib.Core.Path.{_≡_, refl, sym, ap, _∙_, subst}
+use mathlib.Core.Path.{_≡_, refl, sym, ap, _∙_, subst, subst₂}
 use mathlib.Core.Logic.{_↔_}
 use mathlib.Core.List.{List, [], _∷_, _++_}
 use Prim.Native.Nat.{ℕ, zero, suc, _+_, _-_, _<_}
@@ -46,27 +46,21 @@ entry-numbered w a i r l h =
     entry-of-sound (runsOf w) (length (rowsBefore w a) + suc i) r
     (entry-after w a i l (omega (arith, entry-bounds (rowsAt w a (length w - a)) (suc i) r h)) ∙ entry-of-complete (rowsAt w a (length w - a)) (suc i) r h)
 
-rows-equal : (r : Record) (a p : ℕ) → r .first ≡ suc a → r .period ≡ p → r ≡ record { first = suc a; last = r .last; period = p }
-rows-equal r a p e f = λ i. record { first = e i; last = r .last; period = f i }
-
 pub number-of-sound : (w : List ℕ) (a p i : ℕ) → a < length w → numberOf w a p ≡ suc i
-    → (last : ℕ) × Entry (runsOf w) (suc i) record { first = suc a; last = last; period = p }
+    → (r : Record) × Entry (runsOf w) (suc i) r × (r .first ≡ suc a) × (r .period ≡ p)
 number-of-sound w a p i l e = go (firstNumber (hasPeriod p) rows) refl
   where
     rows : List Record
     rows = rowsAt w a (length w - a)
 
     found : (j : ℕ) → firstNumber (hasPeriod p) rows ≡ suc j → (r : Record) × Entry rows (suc j) r × (r .period ≡ p)
-        → (last : ℕ) × Entry (runsOf w) (suc i) record { first = suc a; last = last; period = p }
+        → (r : Record) × Entry (runsOf w) (suc i) r × (r .first ≡ suc a) × (r .period ≡ p)
     found j f (r, h, q) =
         let n : length (rowsBefore w a) + suc j ≡ suc i = number-some w a p (suc j) (length (rowsBefore w a)) (sym f) (λ z. omega arith) refl ∙ e in
-        let X = at-sound w a (length w - a) (suc j) r h in (
-          r .last,
-          subst (λ (s : Record). Entry (runsOf w) (suc i) s) (rows-equal r a p (ap (λ (s : Record). s .first) (X .row .is)) q)
-              (subst (λ (m : ℕ). Entry (runsOf w) m r) n (entry-numbered w a j r l h)),
-        )
+        let X = at-sound w a (length w - a) (suc j) r h in
+        (r, subst (λ (m : ℕ). Entry (runsOf w) m r) n (entry-numbered w a j r l h), ap (λ (s : Record). s .first) (X .row .is), q)
 
-    go : (n : ℕ) → firstNumber (hasPeriod p) rows ≡ n → (last : ℕ) × Entry (runsOf w) (suc i) record { first = suc a; last = last; period = p }
+    go : (n : ℕ) → firstNumber (hasPeriod p) rows ≡ n → (r : Record) × Entry (runsOf w) (suc i) r × (r .first ≡ suc a) × (r .period ≡ p)
     go zero f = absurd (omega (arith, number-none w a p 0 (sym f) refl))
     go (suc j) f = let P = first-sound (hasPeriod p) rows j f in found j f (P .row, P .entry, eqb→eq (P .row .period) p (P .passed))
 
@@ -93,7 +87,7 @@ number-of-complete w i r h = rw first-is (go (firstNumber (hasPeriod (r .period)
     go (suc j) f =
         let n : length (rowsBefore w a) + suc j ≡ numberOf w a (r .period) = number-some w a (r .period) (suc j) (length (rowsBefore w a)) (sym f) (λ z. omega arith) refl in
         let k = number-of-sound w a (r .period) (length (rowsBefore w a) + j) (X .below) (sym n ∙ omega arith) in
-        sym n ∙ omega (arith, entry-same (runsOf w) (runs-listed w .sorted) (suc (length (rowsBefore w a) + j)) i _ r (k .1) h (omega (arith, ap (λ (s : Record). s .first) (X .at .row .is))) refl)
+        sym n ∙ omega (arith, entry-same (runsOf w) (runs-listed w .sorted) (suc (length (rowsBefore w a) + j)) i (k .0) r (k .1) h (k .2 ∙ sym (ap (λ (s : Record). s .first) (X .at .row .is))) (k .3))
 
 -- so it is 0 exactly where there is no such run
 pub number-of-none : (w : List ℕ) (a p : ℕ) → a < length w → (numberOf w a p ≡ 0) ↔ ((last : ℕ) → Run w (suc a) last p → ⊥)
@@ -103,11 +97,13 @@ number-of-none w a p l = (none, λ h. go h (numberOf w a p) refl)
     none e last R =
         let k = runs-listed w .complete (suc a) last p R in
         let f : suc a - 1 ≡ a = omega arith in
-        omega (arith, entry-bounds (runsOf w) (k .0) _ (k .1), rw f at (number-of-complete w (k .0) record { first = suc a; last = last; period = p } (k .1)))
+        omega (arith, entry-bounds (runsOf w) (k .0) _ (k .2), rw f at (number-of-complete w (k .0) record { first = suc a; last = last; period = p; root = k .1 } (k .2)))
 
     go : ((last : ℕ) → Run w (suc a) last p → ⊥) → (n : ℕ) → numberOf w a p ≡ n → numberOf w a p ≡ 0
     go h zero e = e
-    go h (suc i) e = let k = number-of-sound w a p i l e in absurd (h (k .0) (runs-listed w .sound (suc i) _ (k .1)))
+    go h (suc i) e =
+        let k = number-of-sound w a p i l e in
+        absurd (h (k .0 .last) (subst₂ (λ (f q : ℕ). Run w f (k .0 .last) q) (k .2) (k .3) (runs-listed w .sound (suc i) (k .0) (k .1))))
 
 -- ---- CLAIM: the count at a boundary is how many runs start after those below it
 

@@ -1,4 +1,4 @@
--- Document 01's printout, byte for byte, and the texts of the shortest words and of a word that is too long, computed from the definitions. Assumes nothing.
+-- Document 01's printout, byte for byte, with document 02's root at the end of each run's line, and the texts of the shortest words and of a word that is too long, computed from the definitions. Assumes nothing.
 use mathlib.Core.Path.{_≡_, refl, ap, _∙_}
 use mathlib.Core.List.{List, [], _∷_, _++_}
 use Prim.Native.Nat.{ℕ}
@@ -7,7 +7,7 @@ use lib.ListN.{length, replicate}
 use Rattle.answers.specs.Outcome.{accepted, refused}
 use Rattle.periods.specs.Period.{smallestPeriod, repetition?}
 use Rattle.periods.specs.Edition.{turnsOf}
-use Rattle.runs.specs.Table.{run?, runBetween, rowsAt, rowsBefore, runsOf}
+use Rattle.runs.specs.Table.{run?, leastStart, rootOf, runBetween, rowsAt, rowsBefore, runsOf}
 use Rattle.factors.specs.Factorization.{cell, bestEnds, textOfBlocks}
 use Rattle.decimals.specs.Decimal.{digitsIn, digitCount, fieldsAfter}
 use Rattle.runs.specs.Number.{firstNumber, runNumber}
@@ -21,10 +21,10 @@ use Rattle.report.proofs.Reports.{text-refused}
 abbrev tenLines : List ℕ
 tenLines =
     112 ∷ 97 ∷ 115 ∷ 115 ∷ 101 ∷ 115 ∷ 44 ∷ 56 ∷ 10 ∷
-    114 ∷ 117 ∷ 110 ∷ 44 ∷ 49 ∷ 44 ∷ 49 ∷ 44 ∷ 50 ∷ 44 ∷ 49 ∷ 10 ∷
-    114 ∷ 117 ∷ 110 ∷ 44 ∷ 50 ∷ 44 ∷ 49 ∷ 44 ∷ 56 ∷ 44 ∷ 51 ∷ 10 ∷
-    114 ∷ 117 ∷ 110 ∷ 44 ∷ 51 ∷ 44 ∷ 52 ∷ 44 ∷ 53 ∷ 44 ∷ 49 ∷ 10 ∷
-    114 ∷ 117 ∷ 110 ∷ 44 ∷ 52 ∷ 44 ∷ 55 ∷ 44 ∷ 56 ∷ 44 ∷ 49 ∷ 10 ∷
+    114 ∷ 117 ∷ 110 ∷ 44 ∷ 49 ∷ 44 ∷ 49 ∷ 44 ∷ 50 ∷ 44 ∷ 49 ∷ 44 ∷ 49 ∷ 10 ∷
+    114 ∷ 117 ∷ 110 ∷ 44 ∷ 50 ∷ 44 ∷ 49 ∷ 44 ∷ 56 ∷ 44 ∷ 51 ∷ 44 ∷ 49 ∷ 10 ∷
+    114 ∷ 117 ∷ 110 ∷ 44 ∷ 51 ∷ 44 ∷ 52 ∷ 44 ∷ 53 ∷ 44 ∷ 49 ∷ 44 ∷ 52 ∷ 10 ∷
+    114 ∷ 117 ∷ 110 ∷ 44 ∷ 52 ∷ 44 ∷ 55 ∷ 44 ∷ 56 ∷ 44 ∷ 49 ∷ 44 ∷ 55 ∷ 10 ∷
     102 ∷ 101 ∷ 119 ∷ 101 ∷ 115 ∷ 116 ∷ 44 ∷ 49 ∷ 10 ∷
     98 ∷ 108 ∷ 111 ∷ 99 ∷ 107 ∷ 44 ∷ 49 ∷ 44 ∷ 49 ∷ 44 ∷ 56 ∷ 44 ∷ 51 ∷ 44 ∷ 50 ∷ 44 ∷ 50 ∷ 44 ∷ 50 ∷ 10 ∷
     109 ∷ 111 ∷ 115 ∷ 116 ∷ 44 ∷ 50 ∷ 10 ∷
@@ -32,7 +32,7 @@ tenLines =
     98 ∷ 108 ∷ 111 ∷ 99 ∷ 107 ∷ 44 ∷ 50 ∷ 44 ∷ 51 ∷ 44 ∷ 56 ∷ 44 ∷ 51 ∷ 44 ∷ 50 ∷ 44 ∷ 48 ∷ 44 ∷ 50 ∷ 10 ∷ []
 
 pub text-of-aabaabaa : text word-aabaabaa ≡ tenLines
-unfolding text line fieldsAfter runLines blockLine textOfBlocks splitText digitsIn digitCount runsOf rowsBefore rowsAt runBetween run? repetition? smallestPeriod turnsOf cell bestEnds runNumber firstNumber
+unfolding text line fieldsAfter runLines blockLine textOfBlocks splitText digitsIn digitCount runsOf rowsBefore rowsAt runBetween run? rootOf leastStart repetition? smallestPeriod turnsOf cell bestEnds runNumber firstNumber
 text-of-aabaabaa = refl
 
 -- passes,0 and fewest,0 and most,0
@@ -40,7 +40,7 @@ pub text-of-empty : text [] ≡
     112 ∷ 97 ∷ 115 ∷ 115 ∷ 101 ∷ 115 ∷ 44 ∷ 48 ∷ 10 ∷
     102 ∷ 101 ∷ 119 ∷ 101 ∷ 115 ∷ 116 ∷ 44 ∷ 48 ∷ 10 ∷
     109 ∷ 111 ∷ 115 ∷ 116 ∷ 44 ∷ 48 ∷ 10 ∷ []
-unfolding text line fieldsAfter runLines blockLine textOfBlocks splitText digitsIn digitCount runsOf rowsBefore rowsAt runBetween run? repetition? smallestPeriod turnsOf cell bestEnds runNumber firstNumber
+unfolding text line fieldsAfter runLines blockLine textOfBlocks splitText digitsIn digitCount runsOf rowsBefore rowsAt runBetween run? rootOf leastStart repetition? smallestPeriod turnsOf cell bestEnds runNumber firstNumber
 text-of-empty = refl
 
 -- passes,1 and fewest,none and most,none
@@ -48,7 +48,7 @@ pub text-of-a : text (97 ∷ []) ≡
     112 ∷ 97 ∷ 115 ∷ 115 ∷ 101 ∷ 115 ∷ 44 ∷ 49 ∷ 10 ∷
     102 ∷ 101 ∷ 119 ∷ 101 ∷ 115 ∷ 116 ∷ 44 ∷ 110 ∷ 111 ∷ 110 ∷ 101 ∷ 10 ∷
     109 ∷ 111 ∷ 115 ∷ 116 ∷ 44 ∷ 110 ∷ 111 ∷ 110 ∷ 101 ∷ 10 ∷ []
-unfolding text line fieldsAfter runLines blockLine textOfBlocks splitText digitsIn digitCount runsOf rowsBefore rowsAt runBetween run? repetition? smallestPeriod turnsOf cell bestEnds runNumber firstNumber
+unfolding text line fieldsAfter runLines blockLine textOfBlocks splitText digitsIn digitCount runsOf rowsBefore rowsAt runBetween run? rootOf leastStart repetition? smallestPeriod turnsOf cell bestEnds runNumber firstNumber
 text-of-a = refl
 
 -- "The program holds 1,024 passes; a longer line prints refused,1 alone": r e f u s e d , 1 and byte 10 for every word of 1,025 symbols, all lines for every
@@ -62,26 +62,26 @@ taken-at-1024 w e =
     text-is w (omega arith) ∙ ap (λ (n : ℕ). line passesName (n ∷ []) ++ (runLines 0 (runsOf w) ++ (splitText w 1 fewestName ++ splitText w 2 mostName))) e
 
 -- aabaabaa's ten lines in a table with two places more, and their count
-pub report-of-aabaabaa : reportOutcome word-aabaabaa 133 ≡ accepted (133 ∷ [])
-unfolding reportOutcome text line fieldsAfter runLines blockLine textOfBlocks splitText digitsIn digitCount runsOf rowsBefore rowsAt runBetween run? repetition? smallestPeriod turnsOf cell bestEnds runNumber firstNumber
+pub report-of-aabaabaa : reportOutcome word-aabaabaa 141 ≡ accepted (141 ∷ [])
+unfolding reportOutcome text line fieldsAfter runLines blockLine textOfBlocks splitText digitsIn digitCount runsOf rowsBefore rowsAt runBetween run? rootOf leastStart repetition? smallestPeriod turnsOf cell bestEnds runNumber firstNumber
 report-of-aabaabaa = refl
 
-pub report-of-aabaabaa-into : reportTable word-aabaabaa (replicate 135 7) ≡ tenLines ++ (7 ∷ 7 ∷ [])
-unfolding reportTable text line fieldsAfter runLines blockLine textOfBlocks splitText digitsIn digitCount runsOf rowsBefore rowsAt runBetween run? repetition? smallestPeriod turnsOf cell bestEnds runNumber firstNumber
+pub report-of-aabaabaa-into : reportTable word-aabaabaa (replicate 143 7) ≡ tenLines ++ (7 ∷ 7 ∷ [])
+unfolding reportTable text line fieldsAfter runLines blockLine textOfBlocks splitText digitsIn digitCount runsOf rowsBefore rowsAt runBetween run? rootOf leastStart repetition? smallestPeriod turnsOf cell bestEnds runNumber firstNumber
 report-of-aabaabaa-into = refl
 
 -- the empty word's 25 bytes, and one place too few
 pub report-of-empty : reportOutcome [] 25 ≡ accepted (25 ∷ [])
-unfolding reportOutcome text line fieldsAfter runLines blockLine textOfBlocks splitText digitsIn digitCount runsOf rowsBefore rowsAt runBetween run? repetition? smallestPeriod turnsOf cell bestEnds runNumber firstNumber
+unfolding reportOutcome text line fieldsAfter runLines blockLine textOfBlocks splitText digitsIn digitCount runsOf rowsBefore rowsAt runBetween run? rootOf leastStart repetition? smallestPeriod turnsOf cell bestEnds runNumber firstNumber
 report-of-empty = refl
 
 pub report-a-place-short : reportOutcome [] 24 ≡ refused 7 0
-unfolding reportOutcome text line fieldsAfter runLines blockLine textOfBlocks splitText digitsIn digitCount runsOf rowsBefore rowsAt runBetween run? repetition? smallestPeriod turnsOf cell bestEnds runNumber firstNumber
+unfolding reportOutcome text line fieldsAfter runLines blockLine textOfBlocks splitText digitsIn digitCount runsOf rowsBefore rowsAt runBetween run? rootOf leastStart repetition? smallestPeriod turnsOf cell bestEnds runNumber firstNumber
 report-a-place-short = refl
 
 -- after a refusal the bytes stay
 pub report-refused-keeps : reportTable [] (7 ∷ 7 ∷ []) ≡ 7 ∷ 7 ∷ []
-unfolding reportTable text line fieldsAfter runLines blockLine textOfBlocks splitText digitsIn digitCount runsOf rowsBefore rowsAt runBetween run? repetition? smallestPeriod turnsOf cell bestEnds runNumber firstNumber
+unfolding reportTable text line fieldsAfter runLines blockLine textOfBlocks splitText digitsIn digitCount runsOf rowsBefore rowsAt runBetween run? rootOf leastStart repetition? smallestPeriod turnsOf cell bestEnds runNumber firstNumber
 report-refused-keeps = refl
 
 -- only the first bytes change

@@ -115,7 +115,7 @@ split-printed w choice name = go (lastCell printedTurns w choice) (word-answers 
     go unreachable A = none-printed A refl
     go (reached s p) A = best-printed (endsOf w choice) (rw (A .sized) A) (rw (A .sized) refl)
 
--- CLAIM: the text has the lines that document 01 asks
+-- CLAIM: the text has the lines that the documents ask
 pub text-printed : (w : List ℕ) → Printed w (text w)
 text-printed w = go (decLt programLimit (length w))
   where

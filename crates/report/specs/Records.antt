@@ -21,9 +21,9 @@ RunsListed w table count =
 abbrev pub lineBytes : ℕ → ℕ → ℕ
 lineBytes name numbers = name + 11 * numbers + 1
 
--- a run's line is named run and has four numbers, a block's is named block and has seven
+-- a run's line is named run and has five numbers, a block's is named block and has seven
 abbrev pub runBytes : ℕ
-runBytes = lineBytes 3 4
+runBytes = lineBytes 3 5
 
 abbrev pub blockBytes : ℕ
 blockBytes = lineBytes 5 7

@@ -58,7 +58,7 @@ noneText = 44 ∷ 110 ∷ 111 ∷ 110 ∷ 101 ∷ 10 ∷ []
 abbrev pub refusedText : List ℕ
 refusedText = 114 ∷ 101 ∷ 102 ∷ 117 ∷ 115 ∷ 101 ∷ 100 ∷ 44 ∷ 49 ∷ 10 ∷ []
 
--- "Run: number, first, last, unit." The lines of the runs from number i + 1 on
+-- "Run: number, first, last, unit", and "the program's run line ends with the root as a fifth field". The lines of the runs from number i + 1 on
 unfoldable pub runLines : ℕ → List Record → List ℕ
 runLines i [] = []
 runLines i (r ∷ rs) = line runName (suc i ∷ numbersOf r) ++ runLines (suc i) rs

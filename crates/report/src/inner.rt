@@ -37,7 +37,7 @@ fn run_lines(table: &[u32], count: usize, out: &mut [u8], at: usize) -> usize
     let mut i: usize = 0;
     while i < count {
         let run = runs::inner::row(table, i);
-        let numbers = [(i + 1) as u32, run.first, run.last, run.period];
+        let numbers = [(i + 1) as u32, run.first, run.last, run.period, run.root];
         next = writers::inner::put_line(out, next, b"run", &numbers);
         i += 1;
     }

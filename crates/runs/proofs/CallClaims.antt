@@ -1,4 +1,4 @@
--- What the runs call answers and writes means what document 01 says, for every word and table: `runs-mean`. One law for each outcome gives both from the tests
+-- What the runs call answers and writes means what the documents say, for every word and table: `runs-mean`. One law for each outcome gives both from the tests
 -- that lead to it. By the order of the tests in the definitions. Assumes nothing.
 use mathlib.Core.Path.{_≡_, sym, ap, _∙_}
 use mathlib.Core.List.{List, [], _∷_, _++_}
@@ -53,7 +53,7 @@ module _ (w t : List ℕ) where
       let g = runs-all h (omega arith) in
       (ap (λ (n : ℕ). accepted (n ∷ [])) e ∙ g .0, stored-front t u v (flat (runsOf w)) (stride * length (runsOf w)) f s (sym (length-flat (runsOf w))) (omega arith) ∙ g .1)
 
-  -- CLAIM: what the runs call answers and writes means what document 01 says
+  -- CLAIM: what the runs call answers and writes means what the documents say
   pub runs-mean : RunsMeaning w t (runsOutcome w (length t)) (runsTable w t)
   runs-mean = go (decLt limit (length w)) (decLt (length t) (stride * length (runsOf w)))
     where

@@ -1,5 +1,5 @@
--- The meaning of the runs call leaves one answer and one table: what means what document 01 says is what is computed. Two sorted lists of records with the same
--- entries are one. By induction on both lists, then by the order of the tests. Assumes nothing.
+-- The meaning of the runs call leaves one answer and one table: what means what the documents say is what is computed. Two sorted lists of records with the same
+-- entries are one, and a run has one root. By induction on both lists, then by the order of the tests. Assumes nothing.
 use mathlib.Core.Path.{_≡_, refl, sym, ap, _∙_, subst}
 use mathlib.Core.Logic.{_⊎_, inl, inr}
 use mathlib.Core.List.{List, [], _∷_, _++_}
@@ -12,6 +12,7 @@ use Rattle.runs.specs.Run.{Entry, Before, Sorted, Lists}
 use Rattle.runs.specs.Table.{runsOf, stride, flat}
 use Rattle.runs.specs.Calls.{runsOutcome, runsTable, RunsMeaning}
 use Rattle.runs.proofs.Entries.{no-entry, not-before}
+use Rattle.runs.proofs.RootClaims.{root-unique}
 use Rattle.runs.proofs.Listed.{runs-listed}
 use Rattle.runs.proofs.CallClaims.{runs-too-long, runs-few, runs-all}
 use Rattle.runs.specs.Calls as calls
@@ -70,11 +71,15 @@ pub lists-unique : (w : List ℕ) (rows others : List Record) → Lists w rows �
 lists-unique w rows others L M = sorted-unique rows others (L .sorted) (M .sorted) (among rows others L M) (among others rows M L)
   where
     among : (xs ys : List Record) → Lists w xs → Lists w ys → Among xs ys
-    among xs ys X Y i r h = Y .complete (r .first) (r .last) (r .period) (X .sound i r h)
+    among xs ys X Y i r h =
+        let R = X .sound i r h in
+        let k = Y .complete (r .first) (r .last) (r .period) R in
+        let e = root-unique w (r .first) (r .last) (r .period) R (k .1) (r .root) (Y .rooted (k .0) _ (k .2)) (X .rooted i r h) in
+        (k .0, subst (λ (q : ℕ). Entry ys (k .0) record { first = r .first; last = r .last; period = r .period; root = q }) e (k .2))
 
 -- ---- the calls
 
--- CLAIM: the runs call's answer and table are the only ones that mean what document 01 says
+-- CLAIM: the runs call's answer and table are the only ones that mean what the documents say
 pub runs-determined : (w t : List ℕ) (o : Outcome) (u : List ℕ) → RunsMeaning w t o u → (o ≡ runsOutcome w (length t)) × (u ≡ runsTable w t)
 runs-determined w t o u (calls.RunsMeaning.too-long h e f) = let g = runs-too-long w t h in (e ∙ g .0, f ∙ g .1)
 runs-determined w t o u (calls.RunsMeaning.too-few h rows L k e f) =

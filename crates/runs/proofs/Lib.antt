@@ -1,10 +1,13 @@
 pub mod InPlace
+pub mod Roots
+pub mod RootClaims
+pub mod RootSearch
+pub mod Conjugates
 pub mod Entries
 pub mod Listed
 pub mod Rows
 pub mod Records
 pub mod Number
-pub mod Roots
 pub mod Few
 pub mod CallClaims
 pub mod Determined

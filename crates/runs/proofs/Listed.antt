@@ -1,7 +1,7 @@
--- The table of runs has exactly the runs, sorted by first and then by period: `runs-listed`. The test for a run decides it in its place; of the runs after one
--- boundary, one that ends later has a greater period, since the smallest periods of prefixes never fall and a run is determined by its first and its period.
--- Assumes nothing.
-use mathlib.Core.Path.{_≡_, refl, sym, ap, _∙_, subst}
+-- The table of runs has exactly the runs, each with its root, sorted by first and then by period: `runs-listed`. The test for a run decides it in its place; of
+-- the runs after one boundary, one that ends later has a greater period, since the smallest periods of prefixes never fall and a run is determined by its first
+-- and its period. Assumes nothing.
+use mathlib.Core.Path.{_≡_, refl, sym, ap, _∙_, subst, subst₂}
 use mathlib.Core.Logic.{_⊎_, inl, inr, _≢_}
 use mathlib.Core.Bool.{Bool, true, false, not, cond, _&&_}
 use mathlib.Core.List.{List, [], _∷_, _++_}
@@ -15,9 +15,10 @@ use Rattle.periods.specs.Period.{part, smallestPeriod, repetition?, anyPeriod}
 use Rattle.periods.proofs.InPlace.{symbol, placed-part, period-piece}
 use Rattle.periods.proofs.Claims.{smallest-period-is, smallest-period-unique, repetition-sound, repetition-complete, part-smallest, part-smallest-unique}
 use Rattle.runs.specs.declared.Record.{Record}
-use Rattle.runs.specs.Run.{Run, Entry, Before, Sorted, Lists}
-use Rattle.runs.specs.Table.{left?, right?, run?, runBetween, rowsAt, rowsBefore, runsOf}
+use Rattle.runs.specs.Run.{Run, Root, Entry, Before, Sorted, Lists}
+use Rattle.runs.specs.Table.{left?, right?, run?, rootOf, recordOf, runBetween, rowsAt, rowsBefore, runsOf}
 use Rattle.runs.proofs.InPlace.{RunIn, run-in, run-out, run-unique}
+use Rattle.runs.proofs.RootClaims.{root-computed}
 use Rattle.runs.proofs.Entries.{entry-left, entry-right, entry-cases, sorted-append}
 
 -- ---- the test
@@ -94,34 +95,32 @@ module _ (w : List ℕ) (a b : ℕ) (l : b ≤ length w) where
       n : length (part w a b) ≡ b - a
       n = placed-part w a b l .long
 
+-- the same where the period is known
+pub run-tested : (w : List ℕ) (a b p : ℕ) → b ≤ length w → p ≡ smallestPeriod (part w a b) → run? w a b ≡ true → RunIn (symbol w) (length w) a b p
+run-tested w a b p l e t = rw e (run-sound w a b l (subst T (sym t) tt))
+
 -- ---- the records
 
 -- r is the record of the run between the boundaries a and b
 pub record IsRow (w : List ℕ) (a b : ℕ) (r : Record) : Type 0 where
   pub test : T (run? w a b)
-  pub is : r ≡ record { first = suc a; last = b; period = smallestPeriod (part w a b) }
+  pub is : r ≡ recordOf w a b
 
 between-sound : (w : List ℕ) (a b i : ℕ) (r : Record) → Entry (runBetween w a b) i r → IsRow w a b r
 unfolding runBetween
 between-sound w a b i r h = go (run? w a b) refl i h
   where
-    row : Record
-    row = record { first = suc a; last = b; period = smallestPeriod (part w a b) }
-
-    go : (t : Bool) → run? w a b ≡ t → (i : ℕ) → Entry (cond t (row ∷ []) []) i r → IsRow w a b r
+    go : (t : Bool) → run? w a b ≡ t → (i : ℕ) → Entry (cond t (recordOf w a b ∷ []) []) i r → IsRow w a b r
     go t e zero h = absurd h
     go true e (suc zero) h = record { test = subst T (sym e) tt; is = sym h }
     go true e (suc (suc i)) h = absurd h
     go false e (suc i) h = absurd h
 
-between-complete : (w : List ℕ) (a b : ℕ) → T (run? w a b) → Entry (runBetween w a b) 1 record { first = suc a; last = b; period = smallestPeriod (part w a b) }
+between-complete : (w : List ℕ) (a b : ℕ) → T (run? w a b) → Entry (runBetween w a b) 1 (recordOf w a b)
 unfolding runBetween
 between-complete w a b t = go (run? w a b) t
   where
-    row : Record
-    row = record { first = suc a; last = b; period = smallestPeriod (part w a b) }
-
-    go : (u : Bool) → T u → Entry (cond u (row ∷ []) []) 1 row
+    go : (u : Bool) → T u → Entry (cond u (recordOf w a b ∷ []) []) 1 (recordOf w a b)
     go true t = refl
     go false t = absurd t
 
@@ -129,13 +128,10 @@ between-sorted : (w : List ℕ) (a b : ℕ) → Sorted (runBetween w a b)
 unfolding runBetween
 between-sorted w a b = go (run? w a b)
   where
-    row : Record
-    row = record { first = suc a; last = b; period = smallestPeriod (part w a b) }
-
-    go : (u : Bool) → Sorted (cond u (row ∷ []) [])
+    go : (u : Bool) → Sorted (cond u (recordOf w a b ∷ []) [])
     go true = (λ i r h. none i r h, tt)
       where
-        none : (i : ℕ) (r : Record) → Entry [] i r → Before row r
+        none : (i : ℕ) (r : Record) → Entry [] i r → Before (recordOf w a b) r
         none zero r h = absurd h
         none (suc i) r h = absurd h
     go false = tt
@@ -158,22 +154,18 @@ at-sound w a (suc d) i r h = go (at-sound w a d) (entry-cases (rowsAt w a d) (ru
     go ih (inl k) = let X = ih i r k in record { end = X .end; after = X .after; upto = omega (arith, X .upto); row = X .row }
     go ih (inr (j, e, k)) = record { end = a + suc d; after = omega arith; upto = omega arith; row = between-sound w a (a + suc d) j r k }
 
-pub at-complete : (w : List ℕ) (a d b : ℕ) → a < b → b ≤ a + d → T (run? w a b)
-    → (i : ℕ) × Entry (rowsAt w a d) i record { first = suc a; last = b; period = smallestPeriod (part w a b) }
+pub at-complete : (w : List ℕ) (a d b : ℕ) → a < b → b ≤ a + d → T (run? w a b) → (i : ℕ) × Entry (rowsAt w a d) i (recordOf w a b)
 unfolding rowsAt
 at-complete w a zero b x y t = absurd (omega arith)
 at-complete w a (suc d) b x y t = go (λ z. at-complete w a d b x z t) (ℕ-discrete b (a + suc d))
   where
-    row : ℕ → Record
-    row b = record { first = suc a; last = b; period = smallestPeriod (part w a b) }
-
-    go : (b ≤ a + d → (i : ℕ) × Entry (rowsAt w a d) i (row b)) → Dec (b ≡ a + suc d) → (i : ℕ) × Entry (rowsAt w a d ++ runBetween w a (a + suc d)) i (row b)
+    go : (b ≤ a + d → (i : ℕ) × Entry (rowsAt w a d) i (recordOf w a b)) → Dec (b ≡ a + suc d) → (i : ℕ) × Entry (rowsAt w a d ++ runBetween w a (a + suc d)) i (recordOf w a b)
     go ih (yes e) = (
       length (rowsAt w a d) + 1,
-      entry-right (rowsAt w a d) (runBetween w a (a + suc d)) 1 (row b)
-          (subst (λ (x : ℕ). Entry (runBetween w a x) 1 (row b)) e (between-complete w a b t)),
+      entry-right (rowsAt w a d) (runBetween w a (a + suc d)) 1 (recordOf w a b)
+          (subst (λ (x : ℕ). Entry (runBetween w a x) 1 (recordOf w a b)) e (between-complete w a b t)),
     )
-    go ih (no e) = let k = ih (omega arith) in (k .0, entry-left (rowsAt w a d) (runBetween w a (a + suc d)) (k .0) (row b) (k .1))
+    go ih (no e) = let k = ih (omega arith) in (k .0, entry-left (rowsAt w a d) (runBetween w a (a + suc d)) (k .0) (recordOf w a b) (k .1))
 
 -- of two runs after one boundary, the one that ends later has the greater period
 later-greater : (w : List ℕ) (a b c : ℕ) → b < c → c ≤ length w → T (run? w a b) → T (run? w a c) → smallestPeriod (part w a b) < smallestPeriod (part w a c)
@@ -234,22 +226,18 @@ before-sound w (suc a) i r h = go (before-sound w a) (entry-cases (rowsBefore w 
     go ih (inl k) = let X = ih i r k in record { start = X .start; below = omega (arith, X .below); at = X .at }
     go ih (inr (j, e, k)) = record { start = a; below = omega arith; at = at-sound w a (length w - a) j r k }
 
-before-complete : (w : List ℕ) (a start b : ℕ) → start < a → start < b → b ≤ length w → T (run? w start b)
-    → (i : ℕ) × Entry (rowsBefore w a) i record { first = suc start; last = b; period = smallestPeriod (part w start b) }
+before-complete : (w : List ℕ) (a start b : ℕ) → start < a → start < b → b ≤ length w → T (run? w start b) → (i : ℕ) × Entry (rowsBefore w a) i (recordOf w start b)
 unfolding rowsBefore
 before-complete w zero start b x y z t = absurd (omega arith)
 before-complete w (suc a) start b x y z t = go (λ l. before-complete w a start b l y z t) (ℕ-discrete start a)
   where
-    row : Record
-    row = record { first = suc start; last = b; period = smallestPeriod (part w start b) }
-
-    go : (start < a → (i : ℕ) × Entry (rowsBefore w a) i row) → Dec (start ≡ a) → (i : ℕ) × Entry (rowsBefore w a ++ rowsAt w a (length w - a)) i row
+    go : (start < a → (i : ℕ) × Entry (rowsBefore w a) i (recordOf w start b)) → Dec (start ≡ a) → (i : ℕ) × Entry (rowsBefore w a ++ rowsAt w a (length w - a)) i (recordOf w start b)
     go ih (yes e) =
         let k = at-complete w start (length w - start) b y (omega arith) t in (
           length (rowsBefore w a) + k .0,
-          entry-right (rowsBefore w a) (rowsAt w a (length w - a)) (k .0) row (subst (λ (x : ℕ). Entry (rowsAt w x (length w - x)) (k .0) row) e (k .1)),
+          entry-right (rowsBefore w a) (rowsAt w a (length w - a)) (k .0) (recordOf w start b) (subst (λ (x : ℕ). Entry (rowsAt w x (length w - x)) (k .0) (recordOf w start b)) e (k .1)),
         )
-    go ih (no e) = let k = ih (omega arith) in (k .0, entry-left (rowsBefore w a) (rowsAt w a (length w - a)) (k .0) row (k .1))
+    go ih (no e) = let k = ih (omega arith) in (k .0, entry-left (rowsBefore w a) (rowsAt w a (length w - a)) (k .0) (recordOf w start b) (k .1))
 
 before-sorted : (w : List ℕ) (a : ℕ) → a ≤ length w → Sorted (rowsBefore w a)
 unfolding rowsBefore
@@ -263,25 +251,37 @@ before-sorted w (suc a) h =
         let Y = at-sound w a (length w - a) j s y in
         inl (omega (arith, ap (λ (z : Record). z .first) (X .at .row .is), ap (λ (z : Record). z .first) (Y .row .is), X .below))
 
--- CLAIM: the table of runs has exactly the runs of the word, sorted by first and then by period
+-- CLAIM: the table of runs has exactly the runs of the word, each with its root, sorted by first and then by period
 pub runs-listed : (w : List ℕ) → Lists w (runsOf w)
 unfolding runsOf
-runs-listed w = record { sorted = before-sorted w (length w) (omega arith); sound = sound; complete = complete }
+runs-listed w = record { sorted = before-sorted w (length w) (omega arith); sound = sound; rooted = rooted; complete = complete }
   where
+    -- the run of an entry, in its place
+    placed : (r : Record) (X : RowBefore w (length w) r) → RunIn (symbol w) (length w) (X .start) (X .at .end) (smallestPeriod (part w (X .start) (X .at .end)))
+    placed r X = run-sound w (X .start) (X .at .end) (omega (arith, X .at .upto, X .below)) (X .at .row .test)
+
     sound : (i : ℕ) (r : Record) → Entry (rowsBefore w (length w)) i r → Run w (r .first) (r .last) (r .period)
     sound i r h =
         let X = before-sound w (length w) i r h in
         subst (λ (x : Record). Run w (x .first) (x .last) (x .period)) (sym (X .at .row .is))
-        (run-out w (X .start) (X .at .end) (smallestPeriod (part w (X .start) (X .at .end)))
-        (run-sound w (X .start) (X .at .end) (omega (arith, X .at .upto, X .below)) (X .at .row .test)))
+        (run-out w (X .start) (X .at .end) (smallestPeriod (part w (X .start) (X .at .end))) (placed r X))
 
-    complete : (first last p : ℕ) → Run w first last p → (i : ℕ) × Entry (rowsBefore w (length w)) i record { first = first; last = last; period = p }
+    rooted : (i : ℕ) (r : Record) → Entry (rowsBefore w (length w)) i r → Root w (r .first) (r .period) (r .root)
+    rooted i r h =
+        let X = before-sound w (length w) i r h in
+        subst (λ (x : Record). Root w (x .first) (x .period) (x .root)) (sym (X .at .row .is))
+        (root-computed w (X .start) (X .at .end) (smallestPeriod (part w (X .start) (X .at .end))) (placed r X .smallest) (placed r X .twice))
+
+    complete : (first last p : ℕ) → Run w first last p
+        → (i : ℕ) × (q : ℕ) × Entry (rowsBefore w (length w)) i record { first = first; last = last; period = p; root = q }
     complete first last p R =
         let I = run-in w first last p R in
         let C = run-complete w (first - 1) last (R .ends) p I in
         let k = before-complete w (length w) (first - 1) last
         (omega (arith, I .twice, I .smallest .period .positive, R .ends)) (omega (arith, I .twice, I .smallest .period .positive)) (R .ends) (C .1) in
-        (k .0, subst (λ (x : Record). Entry (rowsBefore w (length w)) (k .0) x) (rows (suc (first - 1)) first last (smallestPeriod (part w (first - 1) last)) p (omega (arith, R .starts)) (sym (C .0))) (k .1))
-      where
-        rows : (a b l p q : ℕ) → a ≡ b → p ≡ q → _≡_ {A = Record} record { first = a; last = l; period = p } record { first = b; last = l; period = q }
-        rows a b l p q e f = λ i. record { first = e i; last = l; period = f i }
+        let q = rootOf w (first - 1) (smallestPeriod (part w (first - 1) last)) in (
+          k .0,
+          q,
+          subst₂ (λ (f u : ℕ). Entry (rowsBefore w (length w)) (k .0) record { first = f; last = last; period = u; root = q })
+              (omega (arith, R .starts)) (sym (C .0)) (k .1),
+        )

@@ -120,8 +120,8 @@ run-numbered w i j h some twice e =
     let E = runs-listed w .complete (R .first) (R .last) p (R .run) in
     first-none (encloses? i j p) (runsOf w) e (E .0)
     record {
-      row = record { first = R .first; last = R .last; period = p };
-      entry = E .1;
+      row = record { first = R .first; last = R .last; period = p; root = E .1 };
+      entry = E .2;
       passed =
           and-intro (leb (R .first) (i + 1)) (leb j (R .last) && eqb p p) (le→leb (R .first) (i + 1) (R .starts))
           (and-intro (leb j (R .last)) (eqb p p) (le→leb j (R .last) (R .ends)) (eqb-refl p));

@@ -10,7 +10,7 @@ use lib.ListN.{length, getD, drop, length-append}
 use lib.Seq.{sets}
 use Rattle.laws.proofs.Stores.{sets-front}
 use Rattle.runs.specs.declared.Record.{Record}
-use Rattle.runs.specs.Table.{stride, flat, records, recordAt}
+use Rattle.runs.specs.Table.{stride, numbersOf, flat, records, recordAt}
 use Rattle.runs.proofs.Rows.{length-flat}
 
 pub records-none : (t : List ℕ) → records 0 t ≡ []
@@ -27,26 +27,22 @@ length-records t zero = refl
 length-records t (suc c) = omega (arith, length-append (records c t) (recordAt t c ∷ []), length-records t c)
 
 -- a record, and the records of the rest
-records-cons : (c x y z : ℕ) (t : List ℕ) → records (suc c) (x ∷ y ∷ z ∷ t) ≡ record { first = x; last = y; period = z } ∷ records c t
+records-cons : (c : ℕ) (r : Record) (t : List ℕ) → records (suc c) (numbersOf r ++ t) ≡ r ∷ records c t
 unfolding records
-records-cons zero x y z t = refl
-records-cons (suc c) x y z t =
-    let e : stride * suc c ≡ suc (suc (suc (stride * c))) = omega arith in
-    let f : stride * suc c + 1 ≡ suc (suc (suc (stride * c + 1))) = omega arith in
-    let g : stride * suc c + 2 ≡ suc (suc (suc (stride * c + 2))) = omega arith in
-    ap (λ (l : List Record). l ++ (recordAt (x ∷ y ∷ z ∷ t) (suc c) ∷ [])) (records-cons c x y z t)
-    ∙ ap (λ (r : Record). (record { first = x; last = y; period = z } ∷ records c t) ++ (r ∷ []))
-    (λ i. record {
-      first = getD (x ∷ y ∷ z ∷ t) (e i) 0;
-      last = getD (x ∷ y ∷ z ∷ t) (f i) 0;
-      period = getD (x ∷ y ∷ z ∷ t) (g i) 0;
-    })
+records-cons zero r t = refl
+records-cons (suc c) r t =
+    let u = numbersOf r ++ t in
+    let e : (i : ℕ) → stride * suc c + i ≡ suc (suc (suc (suc (stride * c + i)))) = λ i. omega arith in
+    let z : stride * suc c ≡ suc (suc (suc (suc (stride * c)))) = omega arith in
+    ap (λ (l : List Record). l ++ (recordAt u (suc c) ∷ [])) (records-cons c r t)
+    ∙ ap (λ (s : Record). (r ∷ records c t) ++ (s ∷ []))
+    (λ i. record { first = getD u (z i) 0; last = getD u (e 1 i) 0; period = getD u (e 2 i) 0; root = getD u (e 3 i) 0 })
 
 records-flat : (rs : List Record) (t : List ℕ) → records (length rs) (flat rs ++ t) ≡ rs
 unfolding records
 records-flat [] t = refl
 records-flat (r ∷ rs) t =
-    records-cons (length rs) (r .first) (r .last) (r .period) (flat rs ++ t) ∙ ap (λ (l : List Record). r ∷ l) (records-flat rs t)
+    records-cons (length rs) r (flat rs ++ t) ∙ ap (λ (l : List Record). r ∷ l) (records-flat rs t)
 
 -- the rows that were stored at the front of a table with room for them
 pub records-stored : (rs : List Record) (t : List ℕ) → stride * length rs ≤ length t → records (length rs) (sets t 0 (flat rs)) ≡ rs

@@ -18,7 +18,7 @@ use Rattle.periods.specs.Period.{part, smallestPeriod, repetition?, anyPeriod}
 use Rattle.periods.proofs.InPlace.{placed-part}
 use Rattle.periods.proofs.PartClaims.{repetition-any}
 use Rattle.runs.specs.declared.Record.{Record}
-use Rattle.runs.specs.Table.{left?, right?, run?, runBetween, rowsAt, rowsBefore, runsOf, stride, flat}
+use Rattle.runs.specs.Table.{left?, right?, run?, rootOf, recordOf, runBetween, rowsAt, rowsBefore, runsOf, stride, numbersOf, flat}
 use Rattle.runs.specs.Inner.{unitsAt, unitsBefore}
 
 -- ---- the tests of run?, in order
@@ -87,12 +87,12 @@ rows-skip w a b h t =
     let e : b + 1 - a - 1 ≡ b - a = omega arith in
     rw e (rows-step w a b h ∙ ap (λ (x : List Record). rowsAt w a (b - a - 1) ++ x) (rw t refl) ∙ append-nil (rowsAt w a (b - a - 1)))
 
-pub rows-add : (w : List ℕ) (a b p : ℕ) → a < b → p ≡ smallestPeriod (part w a b) → run? w a b ≡ true
-    → rowsAt w a (b + 1 - a - 1) ≡ rowsAt w a (b - a - 1) ++ (record { first = a + 1; last = b; period = p } ∷ [])
+pub rows-add : (w : List ℕ) (a b p q : ℕ) → a < b → p ≡ smallestPeriod (part w a b) → q ≡ rootOf w a p → run? w a b ≡ true
+    → rowsAt w a (b + 1 - a - 1) ≡ rowsAt w a (b - a - 1) ++ (record { first = a + 1; last = b; period = p; root = q } ∷ [])
 unfolding runBetween
-rows-add w a b p h q t =
+rows-add w a b p q h u v t =
     let e : b + 1 - a - 1 ≡ b - a = omega arith in
-    rw e (rows-step w a b h ∙ ap (λ (x : List Record). rowsAt w a (b - a - 1) ++ x) (rw (t, q, add-one a) refl))
+    rw e (rows-step w a b h ∙ ap (λ (x : List Record). rowsAt w a (b - a - 1) ++ x) (rw (t, v, u, add-one a) refl))
 
 -- at most one run ends at each boundary
 pub rows-at-most : (w : List ℕ) (a d : ℕ) → length (rowsAt w a d) ≤ d
@@ -101,7 +101,7 @@ rows-at-most w a zero = omega arith
 rows-at-most w a (suc d) =
     omega (arith, rows-at-most w a d, length-append (rowsAt w a d) (runBetween w a (a + suc d)), one (run? w a (a + suc d)))
   where
-    one : (t : Bool) → length {A = Record} (cond t (record { first = suc a; last = a + suc d; period = smallestPeriod (part w a (a + suc d)) } ∷ []) []) ≤ 1
+    one : (t : Bool) → length {A = Record} (cond t (recordOf w a (a + suc d) ∷ []) []) ≤ 1
     one true = omega arith
     one false = omega arith
 
@@ -119,7 +119,7 @@ runs-at-most w h = omega (arith, rows-before-at-most w (length w) h)
 
 pub flat-append : (xs ys : List Record) → flat (xs ++ ys) ≡ flat xs ++ flat ys
 flat-append [] ys = refl
-flat-append (x ∷ xs) ys = ap (λ (l : List ℕ). x .first ∷ x .last ∷ x .period ∷ l) (flat-append xs ys)
+flat-append (x ∷ xs) ys = ap (λ (l : List ℕ). numbersOf x ++ l) (flat-append xs ys)
 
 pub length-flat : (xs : List Record) → length (flat xs) ≡ stride * length xs
 length-flat [] = refl

@@ -11,7 +11,7 @@ use Rattle.runs.specs.declared.Record.{Record}
 use Rattle.runs.specs.Run.{Lists}
 use Rattle.runs.specs.Table.{runsOf, stride, flat}
 
--- ---- "Runs. Three numbers a run (first, last, unit) and the count." "Runs: 1, 7."
+-- ---- "Runs. Three numbers a run (first, last, unit) and the count." "Each run record gains a root", so that there are four. "Runs: 1, 7."
 
 -- the answer, where so many places are lent
 unfoldable pub runsOutcome : List ℕ → ℕ → Outcome

@@ -5,8 +5,8 @@ ghost use Prim.Native.Nat.{_≤_, _<_, _+_, _-_, _*_, _/_, _%_};
 ghost use lib.ListN.{length, set};
 ghost use lib.Seq.{sets};
 ghost use Rattle.answers.specs.Outcome.{limit};
-ghost use Rattle.periods.specs.Period.{part, smallestPeriod};
-ghost use Rattle.runs.specs.Table.{run?, rowsAt, runsOf, stride, numbersOf, flat, recordAt};
+ghost use Rattle.periods.specs.Period.{part, SmallestPeriod, smallestPeriod};
+ghost use Rattle.runs.specs.Table.{run?, rootOf, rowsAt, runsOf, stride, numbersOf, flat, recordAt};
 ghost use Rattle.runs.specs.Inner.{unitsAt, unitsBefore, Scratch};
 use crate::Record;
 use crate::STRIDE;
@@ -33,6 +33,7 @@ fn put(table: &mut [u32], i: usize, run: Record)
     store(table, at, run.first);
     store(table, at + 1, run.last);
     store(table, at + 2, run.period);
+    store(table, at + 3, run.root);
 }
 
 // Record number i of a table, from 0. This is the one place where a record's numbers are read.
@@ -45,6 +46,7 @@ pub fn row(table: &[u32], i: usize) -> Record
         first: table[at],
         last: table[at + 1],
         period: table[at + 2],
+        root: table[at + 3],
     }
 }
 
@@ -90,6 +92,41 @@ fn is_run(w: &[u8], a: usize, b: usize, p: usize) -> bool
     w[b] != w[b - p]
 }
 
+// The root of a run that starts after boundary a and has period p. Of the starts before rival only
+// best can be it; from both on, `same` symbols agree. Where the next two symbols differ, the start
+// with the greater one comes later, and so do the next `same` starts beside those as far after the
+// other: all of them are passed over. At most 3p comparisons.
+fn root(w: &[u8], a: usize, p: usize) -> usize
+    requires { ⌜ (length (now w) ≤ limit) × (a + 2 * p ≤ length (now w)) × SmallestPeriod (part (now w) a (a + 2 * p)) p ⌝ }
+    ensures { λ r. ⌜ r ≡ rootOf (now (w .entry)) a p ⌝ }
+{
+    let end = a + p;
+    let mut best = a;
+    let mut rival = a + 1;
+    let mut same: usize = 0;
+    while rival < end {
+        let x = w[best + same];
+        let y = w[rival + same];
+        if x == y {
+            same += 1;
+            continue;
+        }
+        if x < y {
+            rival += same + 1;
+            same = 0;
+            continue;
+        }
+        let past = best + same + 1;
+        best = rival;
+        rival += 1;
+        if rival < past {
+            rival = past;
+        }
+        same = 0;
+    }
+    best + 1
+}
+
 // Writes the records of the runs that start after boundary a, from number at on, as far as the
 // table has places, and gives the number after them. Time linear in what follows the boundary.
 pub fn rows_at(w: &[u8], a: usize, units: &mut [u32], table: &mut [u32], at: usize) -> usize
@@ -112,6 +149,7 @@ pub fn rows_at(w: &[u8], a: usize, units: &mut [u32], table: &mut [u32], at: usi
             first: (a + 1) as u32,
             last: b as u32,
             period: p as u32,
+            root: root(w, a, p) as u32,
         };
         put(table, count, run);
         count += 1;

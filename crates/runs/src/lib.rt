@@ -9,18 +9,19 @@ pub mod inner;
 use answers::Counted;
 use answers::Refusal;
 
-// The record of a run: document 01's first, last and unit.
+// The record of a run: document 01's first, last and unit, and document 02's root.
 pub struct Record {
     pub first: u32,
     pub last: u32,
     pub period: u32,
+    pub root: u32,
 }
 
 // How many numbers the record of a run has in a table.
-pub const STRIDE: usize = 3;
+pub const STRIDE: usize = 4;
 
-// The runs call: writes first, last and unit of each run, in the order of their numbers, and gives
-// their count. Refusals: 1, 7. Time: quadratic in the word's length at most; 17 KiB of stack.
+// The runs call: writes first, last, unit and root of each run, in the order of their numbers, and
+// gives their count. Refusals: 1, 7. Time: quadratic in the word's length at most; 17 KiB of stack.
 pub fn runs(w: &[u8], table: &mut [u32]) -> Counted
     ensures answer { λ r. ⌜ countedView r ≡ runsOutcome (now (w .entry)) (length (now (table .entry))) ⌝ }
     ensures written { λ r. ⌜ now (table .exit) ≡ runsTable (now (w .entry)) (now (table .entry)) ⌝ }

@@ -40,10 +40,12 @@ fn main() {
 fn graph() {
     rows(
         Call::Runs,
-        b"aabaabaa,14|aabaabaa,12|aabaabaa,11|aabaabaa,0|,0|,2|ab,1|aaaa,3|ababa,4|\
+        b"aabaabaa,18|aabaabaa,16|aabaabaa,15|aabaabaa,12|aabaabaa,0|,0|,2|ab,1|aaaa,4|ababa,5|\
         abaabaababaabaabababa,64|aabaabaacbbcbbcbb,64|\
-        abababab,4|aaaaaabbbccc,10|aaaabababab,7|aaabaaabaaabaaa,16|",
+        abababab,5|aaaaaabbbccc,13|aaaabababab,9|aaabaaabaaabaaa,21|\
+        ababbaba,17|bababab,4|cabcabca,4|abacabacab,4|abaaabaaabaa,17|",
     );
+    symbols();
     rows(
         Call::Nodes,
         b"aabaabaa,1,3,1|aabaabaa,1,3,2|aabaabaa,1,3,5|aabaabaa,1,1,6|aabaabaa,1,3,8|\
@@ -56,6 +58,17 @@ fn graph() {
         aaabaaabaaabaaa,2,1,15|abaabaababaabaabababa,2,8,9|abaabaababaabaabababa,2,8,21|\
         abababab,0,2,8|abababab,3,2,8|abababab,4294967295,2,8|\
         abababab,0,2,0|abababab,3,2,9|abababab,4294967295,0,8|",
+    );
+}
+
+// Symbols that are not letters: roots go by their codes, from 0 to 255.
+fn symbols() {
+    named_runs(b"128 1 twice", b"\x80\x01\x80\x01");
+    named_runs(b"127 128 twice", b"\x7f\x80\x7f\x80");
+    named_runs(b"200 100 twice and 200", b"\xc8\x64\xc8\x64\xc8");
+    named_runs(
+        b"128 255 128 127 twice",
+        b"\x80\xff\x80\x7f\x80\xff\x80\x7f",
     );
 }
 
@@ -258,6 +271,15 @@ fn runs_in(w: &[u8], places: u32, table: &mut [u32]) {
     field(places);
     outcome(runs::runs(w, table));
     list(b"", table);
+}
+
+// The same of a word that is shown by a name, with five places lent.
+fn named_runs(name: &[u8], w: &[u8]) {
+    let mut table = [7u32; 5];
+    text(b"runs,");
+    text(name);
+    outcome(runs::runs(w, &mut table));
+    list(b"", &table);
 }
 
 fn nodes_in(w: &[u8], edition: u32, places: u32, numbers: &[u32], table: &mut [u32]) {

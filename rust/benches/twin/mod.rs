@@ -5,7 +5,7 @@ pub type Answer<T> = Result<T, (u32, u32)>;
 
 const LIMIT: usize = 4096;
 const NONE: u32 = u32::MAX;
-const STRIDE: usize = 3;
+const STRIDE: usize = 4;
 const LINE: usize = 61;
 const COLUMN: usize = 6;
 const SHOWN: usize = 9;
@@ -103,6 +103,29 @@ fn is_run(w: &[u8], a: usize, b: usize, p: usize) -> bool {
     b == w.len() || w[b] != w[b - p]
 }
 
+/// The root of a run after boundary a, of unit p. Of the starts below j only i is left, and from i and
+/// from j on k symbols agree. They are fewer than p, since the unit is primitive, and so lie in the
+/// two turns that a run has.
+fn root(w: &[u8], a: usize, p: usize) -> usize {
+    let (mut i, mut j, mut k) = (0, 1, 0);
+    while j < p {
+        let (x, y) = (w[a + i + k], w[a + j + k]);
+        if x == y {
+            k += 1;
+            continue;
+        }
+        if x < y {
+            j += k + 1;
+        } else {
+            let next = i + k + 1;
+            i = j;
+            j = next.max(i + 1);
+        }
+        k = 0;
+    }
+    a + i + 1
+}
+
 fn rows_at(w: &[u8], a: usize, unit_table: &mut [u32], table: &mut [u32], at: usize) -> usize {
     let n = w.len();
     units(&w[a..n], unit_table);
@@ -113,6 +136,7 @@ fn rows_at(w: &[u8], a: usize, unit_table: &mut [u32], table: &mut [u32], at: us
             store(table, STRIDE * count, (a + 1) as u32);
             store(table, STRIDE * count + 1, b as u32);
             store(table, STRIDE * count + 2, p as u32);
+            store(table, STRIDE * count + 3, root(w, a, p) as u32);
             count += 1;
         }
     }

@@ -3,8 +3,9 @@
 //! The functions named `plain_..` are the definitions themselves, by trying everything; they serve
 //! short words. The others are faster and of another kind than the library's own (borders, or how far
 //! each distance reaches, instead of the recurrence of periods; runs by period instead of by first
-//! position; each boundary looking back instead of offering forward; squares by their halves, without
-//! periods); the test holds them to the plain ones on every short word.
+//! position; roots by all candidates at once instead of by two; each boundary looking back instead of
+//! offering forward; squares by their halves, without periods); the test holds them to the plain ones
+//! on every short word.
 
 pub const LIMIT: usize = 4096;
 pub const NONE: u32 = u32::MAX;
@@ -91,8 +92,46 @@ fn is_block(part: &[u8], turns: usize) -> bool {
 
 // ---- runs
 
-/// First, last, unit.
-pub type Run = (usize, usize, usize);
+/// First, last, unit, root.
+pub type Run = (usize, usize, usize, usize);
+
+/// The numbers of a run in a table.
+pub const RUN_PLACES: usize = 4;
+
+/// Whether a part comes before another of its length in order of symbol code, from 0 to 255: the first
+/// symbols that differ decide.
+fn plain_before(part: &[u8], other: &[u8]) -> bool {
+    let mut pairs = part.iter().zip(other);
+    pairs.find(|(a, b)| a != b).is_some_and(|(a, b)| a < b)
+}
+
+/// The one position from first to first + p - 1 where the p symbols starting there come before those at
+/// every other.
+pub fn plain_root(w: &[u8], first: usize, p: usize) -> usize {
+    let positions = first..first + p;
+    let symbols_at = |q: usize| &w[q - 1..q - 1 + p];
+    let comes_first = |&q: &usize| {
+        let mut others = positions.clone().filter(|&other| other != q);
+        others.all(|other| plain_before(symbols_at(q), symbols_at(other)))
+    };
+    let found: Vec<usize> = positions.clone().filter(comes_first).collect();
+    assert_eq!(found.len(), 1, "a run has one root");
+    found[0]
+}
+
+/// The same: of all positions those are kept whose next symbol is least, until one is left.
+pub fn root(w: &[u8], first: usize, p: usize) -> usize {
+    let mut left: Vec<usize> = (first..first + p).collect();
+    let mut compared = 0;
+    while left.len() > 1 {
+        assert!(compared < p, "a run has one root");
+        let symbol = |q: usize| w[q - 1 + compared];
+        let least = left.iter().map(|&q| symbol(q)).min();
+        left.retain(|&q| Some(symbol(q)) == least);
+        compared += 1;
+    }
+    left[0]
+}
 
 pub fn plain_runs(w: &[u8]) -> Vec<Run> {
     let n = w.len();
@@ -107,11 +146,11 @@ pub fn plain_runs(w: &[u8]) -> Vec<Run> {
                 && (first == 1 || at(first - 1) != at(first + p - 1))
                 && (last == n || at(last + 1) != at(last + 1 - p))
             {
-                runs.push((first, last, p));
+                runs.push((first, last, p, plain_root(w, first, p)));
             }
         }
     }
-    runs.sort_by_key(|&(first, _, p)| (first, p));
+    runs.sort_by_key(|&(first, _, p, _)| (first, p));
     runs
 }
 
@@ -128,19 +167,19 @@ pub fn runs(w: &[u8]) -> Vec<Run> {
                 to += 1;
             }
             if to - from >= p && unit(&w[from..to + p]) == p {
-                runs.push((from + 1, to + p, p));
+                runs.push((from + 1, to + p, p, root(w, from + 1, p)));
             }
             from = to + 1;
         }
     }
-    runs.sort_by_key(|&(first, _, p)| (first, p));
+    runs.sort_by_key(|&(first, _, p, _)| (first, p));
     runs
 }
 
 /// The numbers of the runs with a white node at a position.
 pub fn white(runs: &[Run], turns: usize, position: usize) -> Vec<u32> {
     let mut numbers = Vec::new();
-    for (i, &(first, last, p)) in runs.iter().enumerate() {
+    for (i, &(first, last, p, _)) in runs.iter().enumerate() {
         if (first + turns * p - 1..=last).contains(&position) {
             numbers.push(i as u32 + 1);
         }
@@ -415,12 +454,13 @@ pub fn runs_call(w: &[u8], runs: &[Run], places: usize) -> (Outcome, Vec<u32>) {
     if w.len() > LIMIT {
         return (refused(1), vec![]);
     }
-    if places < 3 * runs.len() {
+    if places < RUN_PLACES * runs.len() {
         return (refused(7), vec![]);
     }
     let flat = runs
         .iter()
-        .flat_map(|&(a, b, p)| [a as u32, b as u32, p as u32])
+        .flat_map(|&(first, last, p, root)| [first, last, p, root])
+        .map(|number| number as u32)
         .collect();
     (Accepted(vec![runs.len() as u32]), flat)
 }
@@ -596,7 +636,7 @@ pub fn path_call(
         let mut enclosing = runs
             .iter()
             .enumerate()
-            .filter(|(_, &(a, b, q))| a <= before + 1 && end <= b && q == p);
+            .filter(|(_, &(a, b, q, _))| a <= before + 1 && end <= b && q == p);
         let (i, _) = enclosing.next().expect("a block lies in a run");
         assert!(enclosing.next().is_none(), "only one run encloses a block");
         numbers.push(i as u32 + 1);
@@ -651,7 +691,7 @@ pub fn judge_path_call(w: &[u8], edition: u32, runs: &[Run], numbers: &[u32]) ->
         if number == 0 || number > runs.len() {
             return false;
         }
-        let (first, last, p) = runs[number - 1];
+        let (first, last, p, _) = runs[number - 1];
         first <= i + 1 && j <= last && j - i >= turns * p
     })
     .unwrap_or_else(|| Accepted(vec![ends.len() as u32]))

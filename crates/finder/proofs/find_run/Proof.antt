@@ -92,7 +92,7 @@ fails false _ = refl
 
 -- how many bytes a record takes
 abbrev size : ℕ
-size = 12
+size = 16
 
 bytes-fit : (i n : ℕ) → i < n → n * size < 2 ^ 63 → i * size < 2 ^ 64
 bytes-fit i n lt room = omega (arith, lt, room)
@@ -131,7 +131,7 @@ vals = LL.vals T.the-type T′.the-laws
 
 -- what lies past the end
 abbrev none : Record
-none = record { first = 0; last = 0; period = 0 }
+none = record { first = 0; last = 0; period = 0; root = 0 }
 
 abbrev stayed : Stays (find.ended .signature .params) (find.ended .kept)
 stayed = (stay-dropped (shrSlice 0 tt (λ _. T.the-row)) yes, (stay-dropped (plain (λ _. u32)) yes, (stay-dropped (plain (λ _. u32)) yes, (stay-dropped (plain (λ _. u32)) yes, tt))))

@@ -27,7 +27,7 @@ cast-if1 c = search needs
 returns : tie.Need-returns
 returns c =
     let g = c .before .before .before .before .before .args in
-    run-starts-later (g .turns) _ (g .i) (g .j) (c .if1 .taken) ∙ ap (λ (f : Found). inRun? anyPeriod (g .turns) (foundView f) (g .i) (g .j)) (sym (c .before .before .before .found .given .1))
+    run-starts-later (g .turns) (c .before .before .before .found .given .0 .0) (g .i) (g .j) (c .if1 .taken) ∙ ap (λ (f : Found). inRun? anyPeriod (g .turns) (foundView f) (g .i) (g .j)) (sym (c .before .before .before .found .given .1))
 
 cast-if2 : tie.Need-cast-if2
 cast-if2 c = search needs
@@ -35,7 +35,7 @@ cast-if2 c = search needs
 returns-2 : tie.Need-returns-2
 returns-2 c =
     let g = c .before .before .before .before .before .before .before .args in
-    run-ends-before (g .turns) _ (g .i) (g .j) (c .before .before .if1 .left) (c .if2 .taken) ∙ ap (λ (f : Found). inRun? anyPeriod (g .turns) (foundView f) (g .i) (g .j)) (sym (c .before .before .before .before .before .found .given .1))
+    run-ends-before (g .turns) (c .before .before .before .before .before .found .given .0 .0) (g .i) (g .j) (c .before .before .if1 .left) (c .if2 .taken) ∙ ap (λ (f : Found). inRun? anyPeriod (g .turns) (foundView f) (g .i) (g .j)) (sym (c .before .before .before .before .before .found .given .1))
 
 cast-result : tie.Need-cast-result
 cast-result c = search needs
@@ -56,7 +56,7 @@ returns-3 c = search needs
 returns-4 : tie.Need-returns-4
 returns-4 c =
     let g = c .before .before .before .before .before .before .before .before .args in
-    run-encloses (g .turns) _ (g .i) (g .j) (c .before .before .before .if1 .left) (c .before .if2 .left) ∙ ap (λ (f : Found). inRun? anyPeriod (g .turns) (foundView f) (g .i) (g .j)) (sym (c .before .before .before .before .before .before .found .given .1))
+    run-encloses (g .turns) (c .before .before .before .before .before .before .found .given .0 .0) (g .i) (g .j) (c .before .before .before .if1 .left) (c .before .if2 .left) ∙ ap (λ (f : Found). inRun? anyPeriod (g .turns) (foundView f) (g .i) (g .j)) (sym (c .before .before .before .before .before .before .found .given .1))
 
 pub lies-in-spec : {M : Type 1} → statement M
 lies-in-spec =

@@ -1,5 +1,6 @@
 -- `runs::inner::rows_at` meets its contract: its loop keeps that the records of the runs that end before boundary b are counted and stored. Assumes nothing.
 use mathlib.Core.Path.{_≡_, refl, sym, ap, _∙_}
+use mathlib.Core.Bool.{true}
 use mathlib.Core.List.{List, [], _∷_, _++_}
 use Prim.Native.Nat.{ℕ, _+_, _-_, _*_, _<_, _≤_}
 use native.Mathlib.Omega.{arith}
@@ -9,10 +10,14 @@ use lib.ListN.{length, getD, length-append}
 use lib.Seq.{sets, length-sets}
 use Rattle.periods.specs.Period.{part, smallestPeriod}
 use Rattle.runs.specs.declared.Record.{Record}
-use Rattle.runs.specs.Table.{rowsAt, stride, flat}
+use Rattle.runs.specs.Table.{run?, rowsAt, stride, flat}
 use Rattle.runs.specs.Inner.{unitsAt}
+use Rattle.periods.proofs.InPlace.{symbol}
 use Rattle.periods.proofs.Claims.{part-smallest}
 use Rattle.periods.proofs.UnitsTable.{units-of-part}
+use Rattle.runs.proofs.InPlace.{RunIn}
+use Rattle.runs.proofs.RootClaims.{root-computed, two-turns}
+use Rattle.runs.proofs.Listed.{run-tested}
 use Rattle.runs.proofs.Rows.{part-long, rows-none, rows-skip, rows-add, rows-at-most, put-rows}
 use Rattle.runs.proofs.inner.rows_at.Statement.{statement}
 use Rattle.runs.proofs.inner.rows_at.Tie as tie
@@ -55,12 +60,15 @@ units-are c = c .before .before .before .units .ensures .1
 units-length : (c : Turn) → length (found c) ≡ length (scratch c)
 units-length c = c .before .before .before .units .kept .1 .0
 
+abbrev unit : Turn → ℕ
+unit c = getD (found c) (place c) 0
+
 -- what is read is the smallest period of that part
-unit-read : (c : Turn) → start c < c .loop .b → c .loop .b ≤ length (word c) → getD (found c) (place c) 0 ≡ smallestPeriod (part (word c) (start c) (c .loop .b))
+unit-read : (c : Turn) → start c < c .loop .b → c .loop .b ≤ length (word c) → unit c ≡ smallestPeriod (part (word c) (start c) (c .loop .b))
 unit-read c h k = ap (λ (u : List ℕ). getD u (place c) 0) (units-are c) ∙ units-of-part (word c) (scratch c) (start c) (c .loop .b) h k
 
 -- it is at most the length of the part
-unit-bound : (c : Turn) → start c < c .loop .b → c .loop .b ≤ length (word c) → getD (found c) (place c) 0 ≤ c .loop .b
+unit-bound : (c : Turn) → start c < c .loop .b → c .loop .b ≤ length (word c) → unit c ≤ c .loop .b
 unit-bound c h k = omega (arith, unit-read c h k, part-smallest (word c) (start c) (c .loop .b) k h .period .fits)
 
 -- the count stays small
@@ -132,11 +140,33 @@ cast-t25 c = omega arith
 cast-t26 : tie.Need-cast-t26 Inv-loop μ-loop
 cast-t26 c = omega (arith, unit-bound (c .before .before .before .before) (omega arith) (omega arith))
 
+-- past the test, the part is a run
+tested-is : (c : tie.Else1 Inv-loop μ-loop) → run? (word (c .before .before .before .before)) (start (c .before .before .before .before)) (c .before .before .before .before .loop .b) ≡ true
+tested-is c = sym (c .before .is-run .ensures) ∙ not-false _ (c .if1 .left)
+
+tested-run : (c : tie.Else1 Inv-loop μ-loop)
+    → RunIn (symbol (word (c .before .before .before .before))) (length (word (c .before .before .before .before))) (start (c .before .before .before .before)) (c .before .before .before .before .loop .b) (unit (c .before .before .before .before))
+tested-run c =
+    let t = c .before .before .before .before in
+    run-tested (word t) (start t) (t .loop .b) (unit t) (omega arith) (unit-read t (omega arith) (omega arith)) (tested-is c)
+
+root-requires : tie.Need-root-requires Inv-loop μ-loop
+root-requires c κs =
+    let t = c .before .before .before .before in
+    let z = two-turns (word t) (start t) (t .loop .b) (unit t) (tested-run c) in
+    (omega arith, z .0, z .1)
+
+cast-t27 : tie.Need-cast-t27 Inv-loop μ-loop
+cast-t27 c =
+    let t = c .before .before .before .before .before in
+    let R = tested-run (c .before) in
+    omega (arith, c .root .ensures, root-computed (word t) (start t) (t .loop .b) (unit t) (R .smallest) (R .twice) .to, R .twice, R .within)
+
 put-requires : tie.Need-put-requires Inv-loop μ-loop
-put-requires c κs = omega (arith, count-bound (c .before .before .before .before .before))
+put-requires c κs = omega (arith, count-bound (c .before .before .before .before .before .before))
 
 add-count : tie.Need-add-count Inv-loop μ-loop
-add-count c = omega (arith, count-bound (c .before .before .before .before .before .before .before .before))
+add-count c = omega (arith, count-bound (c .before .before .before .before .before .before .before .before .before))
 
 add-b-3 : tie.Need-add-b-3 Inv-loop μ-loop
 add-b-3 c = omega arith
@@ -146,12 +176,13 @@ loop-less-2 c = omega arith
 
 loop-again-2 : tie.Need-loop-again-2 Inv-loop μ-loop
 loop-again-2 c =
-    let t = c .before .before .before .before .before .before .before .before in
-    let tested = c .before .before .before .before in
+    let t = c .before .before .before .before .before .before .before .before .before in
+    let tested = c .before .before .before .before .before in
+    let r = c .before .before .before .before .root in
     let before = rowsAt (word t) (start t) (place t) in
-    let row : Record = record { first = start t + 1; last = t .loop .b; period = getD (found t) (place t) 0 } in
+    let row : Record = record { first = start t + 1; last = t .loop .b; period = unit t; root = r .result } in
     let e : rowsAt (word t) (start t) (t .loop .b + 1 - start t - 1) ≡ before ++ (row ∷ []) =
-    rows-add (word t) (start t) (t .loop .b) _ (omega arith) (unit-read t (omega arith) (omega arith)) (sym (tested .before .is-run .ensures) ∙ not-false _ (tested .if1 .left)) in (
+    rows-add (word t) (start t) (t .loop .b) (unit t) (r .result) (omega arith) (unit-read t (omega arith) (omega arith)) (r .ensures) (tested-is tested) in (
       omega arith,
       omega arith,
       omega (arith, t .loop .inv .2, ap length e, length-append before (row ∷ [])),
@@ -197,6 +228,8 @@ rows-at-spec =
     cast-t23
     cast-t25
     cast-t26
+    root-requires
+    cast-t27
     put-requires
     add-count
     add-b-3
