@@ -8,11 +8,11 @@ use mathlib.Core.List.{List}
 use Prim.Native.Nat.{ℕ, _+_, _-_, _*_, _≤_, _<_}
 use native.Mathlib.Omega.{arith}
 use native.Mathlib.Decide.{decLt, ℕ-discrete}
-use Rattle.periods.proofs.InPlace.{PeriodIn, symbol, period-piece}
+use Rattle.periods.proofs.InPlace.{PeriodIn, symbol}
 use Rattle.runs.specs.Run.{symbolAt, Run, Root}
 use Rattle.runs.proofs.InPlace.{run-in}
 use Rattle.runs.proofs.Roots.{Agree, LeastStart, ahead-asym, ahead-agree}
-use Rattle.runs.proofs.RootClaims.{root-in}
+use Rattle.runs.proofs.RootClaims.{root-least}
 
 -- y is d after x, or one period before that
 abbrev Turned : ℕ → ℕ → ℕ → ℕ → Type 0
@@ -80,46 +80,35 @@ module _ (f : ℕ → ℕ) (p s s′ q q′ : ℕ) (P : PeriodIn f s (s + 2 * p)
   agree-least : Agree f p q q′ → (c : ℕ) × (s ≤ c) × (c < s + p) × Agree f p c s′
   agree-least h = agree-turned f p s s′ P P′ q q′ s′ (L .from) (L .to) (L′ .from) (L′ .to) (omega arith) (omega arith) h
 
--- ---- in a word; positions count from 1
+-- ---- in a word, whose positions count from 1
 
--- the p symbols from two positions are the same
-abbrev pub SameSymbols : List ℕ → ℕ → ℕ → ℕ → Type 0
-SameSymbols w p a b = (i : ℕ) → i < p → symbolAt w (a + i) ≡ symbolAt w (b + i)
-
--- the unit of the second run is wound by the first from a position of its first turn
+-- the first run winds the unit of the second: from some position of its first turn it has the second one's first p symbols
 abbrev pub Winds : List ℕ → ℕ → ℕ → ℕ → Type 0
-Winds w p first first′ = (c : ℕ) × (first ≤ c) × (c ≤ first + p - 1) × SameSymbols w p c first′
+Winds w p first first′ = (c : ℕ) × (first ≤ c) × (c ≤ first + p - 1) × Agree (symbolAt w) p c first′
 
 module _ (w : List ℕ) (first last p q first′ last′ q′ : ℕ) (R : Run w first last p) (R′ : Run w first′ last′ p) (X : Root w first p q) (X′ : Root w first′ p q′) where
   -- CLAIM: the symbols from the roots of two runs of one period on are the same exactly where the two wind one unit
-  pub roots-conjugate : SameSymbols w p q q′ ↔ Winds w p first first′
+  pub roots-conjugate : Agree (symbolAt w) p q q′ ↔ Winds w p first first′
   roots-conjugate = (to, from)
     where
-      turns : (first last : ℕ) → Run w first last p → PeriodIn (symbol w) (first - 1) (first - 1 + 2 * p) p
+      turns : (first last : ℕ) → Run w first last p → PeriodIn (symbolAt w) first (first + 2 * p) p
       turns first last R =
           let I = run-in w first last p R in
-          period-piece (symbol w) (I .smallest .period) (omega arith) (I .twice) (omega arith)
+          record {
+            positive = I .smallest .period .positive;
+            fits = omega arith;
+            same = λ i l u. I .smallest .period .same (i - 1) (omega arith) (omega (arith, I .twice, R .starts)) ∙ ap (symbol w) (omega (arith, R .starts));
+          }
 
-      L : LeastStart true (symbol w) (first - 1) p p (q - 1)
-      L = root-in w first p q (R .starts) X
+      L : LeastStart true (symbolAt w) first p p q
+      L = root-least w first p q (R .starts) X
 
-      L′ : LeastStart true (symbol w) (first′ - 1) p p (q′ - 1)
-      L′ = root-in w first′ p q′ (R′ .starts) X′
+      L′ : LeastStart true (symbolAt w) first′ p p q′
+      L′ = root-least w first′ p q′ (R′ .starts) X′
 
-      inward : (a b : ℕ) → 1 ≤ a → 1 ≤ b → SameSymbols w p a b → Agree (symbol w) p (a - 1) (b - 1)
-      inward a b l k h i g = ap (symbol w) (omega arith) ∙ h i g ∙ ap (symbol w) (omega arith)
+      to : Agree (symbolAt w) p q q′ → Winds w p first first′
+      to h = let z = agree-least (symbolAt w) p first first′ q q′ (turns first last R) (turns first′ last′ R′) L L′ h in (z .0, z .1, omega (arith, z .2), z .3)
 
-      outward : (a b : ℕ) → 1 ≤ b → Agree (symbol w) p a (b - 1) → SameSymbols w p (a + 1) b
-      outward a b k h i g = ap (symbol w) (omega arith) ∙ h i g ∙ ap (symbol w) (omega arith)
-
-      to : SameSymbols w p q q′ → Winds w p first first′
-      to h =
-          let z = agree-least (symbol w) p (first - 1) (first′ - 1) (q - 1) (q′ - 1) (turns first last R) (turns first′ last′ R′) L L′
-          (inward q q′ (omega (arith, R .starts, X .from)) (omega (arith, R′ .starts, X′ .from)) h) in
-          (z .0 + 1, omega (arith, R .starts, z .1), omega (arith, R .starts, z .2), outward (z .0) first′ (R′ .starts) (z .3))
-
-      from : Winds w p first first′ → SameSymbols w p q q′
+      from : Winds w p first first′ → Agree (symbolAt w) p q q′
       from (c, l, u, h) =
-          let k = least-agree (symbol w) p (first - 1) (first′ - 1) (q - 1) (q′ - 1) (turns first last R) (turns first′ last′ R′) L L′
-          (c - 1) (omega (arith, R .starts)) (omega (arith, R .starts)) (inward c first′ (omega (arith, R .starts)) (R′ .starts) h) in
-          λ i g. ap (symbol w) (omega (arith, R .starts, X .from)) ∙ k i g ∙ ap (symbol w) (omega (arith, R′ .starts, X′ .from))
+          least-agree (symbolAt w) p first first′ q q′ (turns first last R) (turns first′ last′ R′) L L′ c l (omega (arith, R .starts)) h

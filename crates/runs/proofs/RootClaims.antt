@@ -12,10 +12,10 @@ use Rattle.periods.specs.Period.{part, SmallestPeriod}
 use Rattle.periods.specs.Square.{Primitive, Square}
 use Rattle.periods.proofs.InPlace.{SmallestIn, symbol, placed-part, part-smallest-out, part-cut}
 use Rattle.periods.proofs.Squares.{square-even, period-half, unit-half-primitive}
-use Rattle.runs.specs.Run.{Run, Precedes, Root}
+use Rattle.runs.specs.Run.{symbolAt, Run, Precedes, Root}
 use Rattle.runs.specs.Table.{precedes?, leastStart, rootOf}
 use Rattle.runs.proofs.InPlace.{RunIn, run-in, piece-smallest}
-use Rattle.runs.proofs.Roots.{Agree, Ahead, LeastStart, least-one, least-kept, least-moved, least-start-unique, window-total}
+use Rattle.runs.proofs.Roots.{Agree, Ahead, LeastStart, agree-none, least-one, least-kept, least-moved, least-start-unique, window-total}
 
 -- ---- the computed comparison
 
@@ -64,7 +64,7 @@ module _ (w : List ℕ) where
       go ih false e t = record {
         common = 0;
         short = omega arith;
-        same = λ i l. absurd (omega arith);
+        same = agree-none (symbol w) a b;
         less = less-at (omega arith) (omega arith) (ltb→lt (symbol w a) (symbol w b) t);
       }
 
@@ -114,20 +114,12 @@ module _ (w : List ℕ) where
         less = less-at (omega arith) (omega arith) (X .less);
       }
 
-  pub root-in : (first p q : ℕ) → 1 ≤ first → Root w first p q → LeastStart true (symbol w) (first - 1) p p (q - 1)
-  root-in first p q h R = record {
-    from = omega arith;
-    to = omega arith;
-    least = λ c l u e. inward c (R .least (suc c) (omega arith) (omega arith) (λ z. e (omega arith)));
-  }
+  -- in positions, which the definition counts in
+  pub root-least : (first p q : ℕ) → 1 ≤ first → Root w first p q → LeastStart true (symbolAt w) first p p q
+  root-least first p q h R = record { from = R .from; to = omega arith; least = λ c l u e. ahead c (R .least c l (omega arith) e) }
     where
-      inward : (c : ℕ) → Precedes w p q (suc c) → Ahead true (symbol w) p (q - 1) c
-      inward c X = record {
-        common = X .common;
-        short = X .within;
-        same = λ i k. same-at (omega arith) (omega arith) (X .same i k);
-        less = less-at (omega arith) (omega arith) (X .less);
-      }
+      ahead : (c : ℕ) → Precedes w p q c → Ahead true (symbolAt w) p q c
+      ahead c X = record { common = X .common; short = X .within; same = X .same; less = X .less }
 
   -- ---- two turns of a unit after boundary a, or more
   module _ (a b p : ℕ) (U : SmallestIn (symbol w) a b p) (twice : a + 2 * p ≤ b) where
@@ -162,9 +154,7 @@ module _ (w : List ℕ) (first last p : ℕ) (R : Run w first last p) where
 
   -- CLAIM: and one only
   pub root-unique : (q q′ : ℕ) → Root w first p q → Root w first p q′ → q ≡ q′
-  root-unique q q′ X Y =
-      let e = least-start-unique (symbol w) (root-in w first p q (R .starts) X) (root-in w first p q′ (R .starts) Y) in
-      omega (arith, e, R .starts, X .from, Y .from)
+  root-unique q q′ X Y = least-start-unique (symbolAt w) (root-least w first p q (R .starts) X) (root-least w first p q′ (R .starts) Y)
 
   -- CLAIM: its unit is primitive
   pub unit-primitive : Primitive (part w (first - 1) (first - 1 + p))

@@ -129,6 +129,9 @@ module _ (f : ℕ → ℕ) where
     less = subst (λ (x : ℕ). Below o (f (a + X .common)) x) (h (X .common) (X .short)) (X .less);
   }
 
+  pub agree-none : (a b : ℕ) → Agree f 0 a b
+  agree-none a b i l = absurd (omega arith)
+
   -- one symbol more
   pub agree-more : (m a b : ℕ) → Agree f m a b → f (a + m) ≡ f (b + m) → Agree f (suc m) a b
   agree-more m a b h e i l = go (decLt i m)
@@ -139,7 +142,7 @@ module _ (f : ℕ → ℕ) where
 
   -- the m symbols from a and from b are the same, or the ones come before the others
   ahead-total : (o : Bool) (m a b : ℕ) → Agree f m a b ⊎ (Ahead o f m a b ⊎ Ahead o f m b a)
-  ahead-total o zero a b = inl (λ i h. absurd (omega arith))
+  ahead-total o zero a b = inl (agree-none a b)
   ahead-total o (suc m) a b = go (ahead-total o m a b) (ℕ-discrete (f (a + m)) (f (b + m)))
     where
       longer : (a b : ℕ) → Ahead o f m a b → Ahead o f (suc m) a b

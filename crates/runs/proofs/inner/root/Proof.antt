@@ -7,7 +7,7 @@ use Prim.Native.Nat.{ℕ, _+_, _-_, _*_, _≤_, _<_}
 use native.Mathlib.Omega.{arith}
 use native.Mathlib.Numerals.{add-one}
 use Rattle.periods.proofs.InPlace.{symbol}
-use Rattle.runs.proofs.Roots.{Agree, agree-more}
+use Rattle.runs.proofs.Roots.{Agree, agree-none, agree-more}
 use Rattle.runs.proofs.RootSearch.{Narrowed, narrowed-none, narrowed-found, same-short, rival-passed, best-passed}
 use Rattle.runs.proofs.inner.root.Statement.{statement}
 use Rattle.runs.proofs.inner.root.Tie as tie
@@ -65,10 +65,6 @@ past-best c e h =
     best-passed (word c) (start c) (period c) (c .before .before .pre .1) (c .before .before .pre .2) (l .best) (l .rival) (l .same)
     (l .inv .0) (l .inv .2) (c .loop-test .taken) (l .inv .4) (l .inv .3) (omega arith) (l .inv .5)
 
--- no symbol has been compared yet
-none : (w : List ℕ) (a b : ℕ) → Agree (symbol w) 0 a b
-none w a b i l = absurd (omega arith)
-
 add-end : tie.Need-add-end Inv-loop μ-loop
 add-end c = omega arith
 
@@ -79,7 +75,7 @@ loop-holds : tie.Need-loop-holds Inv-loop μ-loop
 loop-holds c =
     let g = c .args in
     let u = c .pre .2 .period .positive in
-    (omega arith, omega (arith, u), omega arith, u, none (g .w .now) (g .a) (g .a + 1), narrowed-none (g .w .now) (g .a) (g .p) (c .pre .1) (c .pre .2))
+    (omega arith, omega (arith, u), omega arith, u, agree-none (symbol (g .w .now)) (g .a) (g .a + 1), narrowed-none (g .w .now) (g .a) (g .p) (c .pre .1) (c .pre .2))
 
 add-x : tie.Need-add-x Inv-loop μ-loop
 add-x c = omega arith
@@ -118,7 +114,7 @@ loop-again-2 : tie.Need-loop-again-2 Inv-loop μ-loop
 loop-again-2 c =
     let t = c .before .before .before .before in
     let l = t .before .loop in
-    (l .inv .0, l .inv .1, omega arith, omega arith, none (word t) (l .best) (l .rival + (l .same + 1)), past-rival t (c .if2 .taken))
+    (l .inv .0, l .inv .1, omega arith, omega arith, agree-none (symbol (word t)) (l .best) (l .rival + (l .same + 1)), past-rival t (c .if2 .taken))
 
 add-past : tie.Need-add-past Inv-loop μ-loop
 add-past c = omega arith
@@ -137,7 +133,7 @@ loop-again-3 c =
     let t = c .before .before .before .before .before in
     let l = t .before .loop in
     let next = l .best + l .same + 1 in
-    (omega arith, omega arith, omega arith, omega arith, none (word t) (l .rival) next, past-best t (c .before .before .if1 .left) (c .before .if2 .left) next (inr (omega arith)))
+    (omega arith, omega arith, omega arith, omega arith, agree-none (symbol (word t)) (l .rival) next, past-best t (c .before .before .if1 .left) (c .before .if2 .left) next (inr (omega arith)))
 
 loop-less-4 : tie.Need-loop-less-4 Inv-loop μ-loop
 loop-less-4 c = omega arith
@@ -147,7 +143,7 @@ loop-again-4 c =
     let t = c .before .before .before .before .before in
     let l = t .before .loop in
     let next = l .rival + 1 in
-    (omega arith, omega arith, omega arith, omega arith, none (word t) (l .rival) next, past-best t (c .before .before .if1 .left) (c .before .if2 .left) next (inl (omega arith)))
+    (omega arith, omega arith, omega arith, omega arith, agree-none (symbol (word t)) (l .rival) next, past-best t (c .before .before .if1 .left) (c .before .if2 .left) next (inl (omega arith)))
 
 add-result : tie.Need-add-result Inv-loop μ-loop
 add-result c = omega arith
