@@ -98,6 +98,10 @@ index-zero OddPath a b = refl
 index-zero NotPlan a b = refl
 index-zero BadEdition a b = refl
 
+-- a refused outcome has one number
+pub refused-number : (o : Outcome) (m n i j : ℕ) → o ≡ refused m i → o ≡ refused n j → m ≡ n
+refused-number o m n i j e d = cc
+
 -- nothing is both refused and accepted
 pub refused-accepted : (o : Outcome) (n i : ℕ) (v : List ℕ) → o ≡ refused n i → o ≡ accepted v → ⊥
 refused-accepted o n i v e d = let z : _≡_ {A = ℕ} 0 1 = cc in omega arith

@@ -1,3 +1,2 @@
 pub mod Lines
-pub mod Rendered
 pub mod Examples

@@ -1,4 +1,4 @@
--- The line in bytes that were read, and what is printed of a word.
+-- The line in bytes that were read.
 use mathlib.Core.Path.{_≡_}
 use mathlib.Core.Bool.{cond}
 use mathlib.Core.List.{List, [], _∷_}
@@ -6,7 +6,6 @@ use Prim.Native.Nat.{ℕ, zero, suc, _<_}
 use lib.Dec.{eqb}
 use lib.ListN.{length, take}
 use Rattle.decimals.specs.Decimal.{lineEnd}
-use Rattle.report.specs.Text.{tooMany, text}
 use Rattle.bench.specs.declared.Input.{Input}
 use Rattle.bench.specs.declared.Input.the-variants.{Ended, Over, Full, Failed}
 
@@ -22,11 +21,3 @@ Holds b (Ended n) = (n < length b) × (lineLength b ≡ n)
 Holds b (Over n) = (n < length b) × (lineLength (take n b) ≡ n)
 Holds b Full = lineLength b ≡ length b
 Holds b Failed = Unit {0}
-
--- r e f u s e d , 7 and byte 10
-abbrev pub tooManyText : List ℕ
-tooManyText = 114 ∷ 101 ∷ 102 ∷ 117 ∷ 115 ∷ 101 ∷ 100 ∷ 44 ∷ 55 ∷ 10 ∷ []
-
--- what is printed of a word: its text; refused,7 where it has more runs than the program holds records of
-unfoldable pub printed : List ℕ → List ℕ
-printed w = cond (tooMany w) tooManyText (text w)

@@ -1,11 +1,9 @@
 // The bench program: reads one line from standard input, and prints its report.
 ghost use mathlib.Core.Path.{_≡_};
 ghost use Prim.Native.Nat.{_≤_, _<_};
-ghost use lib.ListN.{length, take};
-ghost use Rattle.report.specs.Text.{programLimit};
-ghost use Rattle.report.specs.Records.{longestText};
-ghost use Rattle.bench.specs.Line.{lineLength, Holds, printed};
-use answers::Counted;
+ghost use lib.ListN.{length};
+ghost use Rattle.report.specs.Text.{programLimit, text};
+ghost use Rattle.bench.specs.Line.{lineLength, Holds};
 use decimals::LINE_END;
 use libc::STDERR_FILENO;
 use libc::STDIN_FILENO;
@@ -13,9 +11,6 @@ use libc::STDOUT_FILENO;
 
 // One byte more than the program takes tells a line that is too long.
 const ENOUGH: usize = report::PROGRAM_LIMIT + 1;
-
-// What is printed of a word that has more runs than the program holds.
-const TOO_MANY: [u8; 10] = *b"refused,7\n";
 
 // How reading a line ended.
 enum Input {
@@ -70,33 +65,22 @@ fn read_line(buf: &mut [u8]) -> Input
     Input::Full
 }
 
-// Writes bytes to standard output. Where that fails, says so on standard error: a program has no
-// exit status to tell it by.
-fn say(bytes: &[u8]) {
+// Writes the text of a word to standard output. Where that fails, says so on standard error: a
+// program has no exit status to tell it by. The word is there for what is required.
+fn say(word: &[u8], bytes: &[u8])
+    requires { ⌜ now bytes ≡ text (now word) ⌝ }
+{
     if !io::write_all(STDOUT_FILENO, bytes) {
         io::write_all(STDERR_FILENO, b"bench: the report was not written\n");
     }
 }
 
-// Writes what is printed of a word to the front of out, and gives the count of bytes.
-fn render(word: &[u8], out: &mut [u8]) -> usize
-    requires { ⌜ longestText ≤ length (now out) ⌝ }
-    ensures { λ r. ⌜ take r (now (out .exit)) ≡ printed (now (word .entry)) ⌝ }
-    ensures { λ r. ⌜ r ≤ length (now (out .exit)) ⌝ }
-{
-    let answer = report::report(word, out);
-    match answer {
-        Counted::Refused(r) => writers::inner::put_text(out, 0, &TOO_MANY),
-        Counted::Count(size) => size as usize,
-    }
-}
-
-// Prints the report of a word; refused,7 alone where it has more runs than the program holds.
+// Prints the report of a word.
 fn print_report(word: &[u8]) {
     let mut out = [0u8; report::LONGEST_REPORT];
-    let n = render(word, &mut out);
+    let n = report::report(word, &mut out);
     let zero: usize = 0;
-    say(&out[zero..n]);
+    say(word, &out[zero..n]);
 }
 
 // Prints the report of bytes that filled the buffer: they are the start of a line that is too long.

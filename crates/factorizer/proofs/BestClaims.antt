@@ -1,10 +1,12 @@
 -- The best split into pieces with a property that a test decides says all of demand 3, for every word within the limit, choice and tables: `chosen-means`. A filled
 -- table says for each prefix length whether it has a factorization, and if so the best size (factors/proofs/Optimal.antt); the previous boundaries lead back over
--- the ends that win the tie; and the factorizations of a prefix in place are those that it has as a word of its own. Assumes nothing.
+-- the ends that win the tie; and the factorizations of a prefix in place are those that it has as a word of its own. Where there are at most half as many pieces
+-- as symbols, so many places for the ends suffice (`chosen-suffice`). Assumes nothing.
 use mathlib.Core.Path.{_≡_, refl, sym, ap, _∙_, subst}
+use mathlib.Core.Logic.{_≢_}
 use mathlib.Core.Bool.{Bool}
-use mathlib.Core.List.{List, _++_}
-use Prim.Native.Nat.{ℕ, suc, _+_, _-_, _*_, _≤_, _<_}
+use mathlib.Core.List.{List, [], _∷_, _++_}
+use Prim.Native.Nat.{ℕ, suc, _+_, _-_, _*_, _/_, _≤_, _<_}
 use native.Mathlib.Omega.{arith}
 use native.Mathlib.Decide.{decLt}
 use borrow.Author.Tests.{lt-ltb, le-ltb}
@@ -12,7 +14,8 @@ use lib.ListN.{length, getD, take, drop, replicate, length-append, length-take, 
 use lib.Seq.{drop-at, getD-append-add, drop-append-add}
 use Rattle.laws.proofs.OneOrTwo.{OneOrTwo, one-or-two?, test-of-one-or-two, test-of-other}
 use Rattle.answers.specs.Outcome.{Outcome, refused}
-use Rattle.factors.specs.Factorization.{Factorization, Choice, choiceOf, Cell, unreachable, reached, cell, bestEnds}
+use Rattle.answers.proofs.Claims.{refused-accepted, refused-number}
+use Rattle.factors.specs.Factorization.{Factorization, size, Choice, choiceOf, Cell, unreachable, reached, cell, bestEnds}
 use Rattle.factors.specs.Table.{none, rows, sizeIn, sizes}
 use Rattle.factors.proofs.Optimal.{Answers, best-factorization, size-bound}
 use Rattle.factors.proofs.TableLaws.{length-sizes, sizes-at}
@@ -169,6 +172,19 @@ module _ (P : List ℕ → Type 0) (p : List ℕ → Bool) (D : Decides P p) (w 
       go (no x) d = by (chosen-bad-choice p w choice e t x) (bad-choice x refl refl refl)
       go (yes x) (yes d) = by (chosen-short p w choice e t x d) (short-table x d refl refl refl)
       go (yes x) (no d) = by (chosen-settled p w choice e t x (omega arith)) (settled x (omega arith) (settled-table (omega arith) small))
+
+-- CLAIM: where no split of the word has more pieces than half its symbols, so many places for the ends suffice: no answer that means what the documents say is 7
+module _ (P : List ℕ → Type 0) (w : List ℕ) (choice : ℕ) (e t : List ℕ) (half : (es : List ℕ) → Factorization (Piece P w) (length w) es → size es ≤ length w / 2)
+    (room : length w / 2 ≤ length e) where
+  answered-suffice : (v : ℕ) (o : Outcome) (x : List ℕ) → Answered P (choiceOf choice) w e v o x → (i : ℕ) → o ≢ refused 7 i
+  answered-suffice v o x (no-split n f g) i y = omega (arith, refused-number o 2 7 0 i f y)
+  answered-suffice v o x (too-few es B l f g) i y = omega (arith, half es (B .factorization), B .sized)
+  answered-suffice v o x (written es B l f g) i y = refused-accepted o 7 i (v ∷ []) y f
+
+  pub chosen-suffice : (o : Outcome) (x y : List ℕ) → Chosen P w choice e t o x y → (i : ℕ) → o ≢ refused 7 i
+  chosen-suffice o x y (bad-choice n f g h) i z = omega (arith, refused-number o 8 7 0 i f z)
+  chosen-suffice o x y (short-table c l f g h) i z = omega (arith, refused-number o 9 7 0 i f z)
+  chosen-suffice o x y (settled c l S) i z = answered-suffice (getD y (length w) 0) o x (S .answered) i z
 
 -- what `factorizer::inner::best` ensures of a rule r is what is promised of the rule that it is
 pub given-by-rule : (r s : Rule) → r ≡ s → (w : List ℕ) (choice : ℕ) (e t : List ℕ) (o : Outcome) (x y : List ℕ)

@@ -4,7 +4,7 @@
 use mathlib.Core.Path.{_≡_, refl, ap, _∙_}
 use mathlib.Core.Logic.{_⊎_, inl, inr}
 use mathlib.Core.List.{List, [], _∷_, _++_, reverse, reverse-append}
-use Prim.Native.Nat.{ℕ, suc, _+_, _-_, _*_, _≤_, _<_}
+use Prim.Native.Nat.{ℕ, suc, _+_, _-_, _*_, _/_, _≤_, _<_}
 use native.Mathlib.Omega.{arith}
 use native.Mathlib.Nat.{suc-mul}
 use lib.ListN.{length, length-append}
@@ -55,6 +55,10 @@ module _ (B : ℕ → ℕ → Type 0) where
   pub chain-long : (d : ℕ) → ((i j : ℕ) → B i j → i + d ≤ j) → (i : ℕ) (es : List ℕ) (m : ℕ) → Chain B i es m → i + size es * d ≤ m
   chain-long d long i [] m h = omega arith
   chain-long d long i (e ∷ es) m h = omega (arith, suc-mul (size es) d, long i e (h .0), chain-long d long e es m (h .1))
+
+  -- with two symbols or more a block, a factorization of the first m symbols has at most m / 2 blocks, rounded down
+  pub size-half : ((i j : ℕ) → B i j → i + 2 ≤ j) → (m : ℕ) (es : List ℕ) → Factorization B m es → size es ≤ m / 2
+  size-half two m es h = omega (arith, chain-long 2 two 0 es m h)
 
   module _ (up : (i j : ℕ) → B i j → i < j) where
     -- each block takes a symbol or more

@@ -1,13 +1,15 @@
 -- The meaning of the nodes call leaves one answer and one table: what means what the documents say is what is computed. Two rising lists of numbers with the
--- same members are one. By induction on both lists, then by the order of the tests. Assumes nothing.
+-- same members are one. By induction on both lists, then by the order of the tests. And a place less than there are symbols suffices (`nodes-suffice`), since a
+-- word has fewer runs. Assumes nothing.
 use mathlib.Core.Path.{_≡_, refl, sym, ap, _∙_, subst}
-use mathlib.Core.Logic.{_⊎_, inl, inr}
+use mathlib.Core.Logic.{_⊎_, _≢_, inl, inr}
 use mathlib.Core.Bool.{Bool}
 use mathlib.Core.List.{List, [], _∷_, _++_, List·Memᴰ, List·Memᴰ·head, List·Memᴰ·tail, List·Memᴰ·cases-cons, List·Memᴰ·not-nil}
-use Prim.Native.Nat.{ℕ, _≤_, _<_}
+use Prim.Native.Nat.{ℕ, _-_, _≤_, _<_}
 use native.Mathlib.Omega.{arith}
 use lib.ListN.{length, drop}
-use Rattle.answers.specs.Outcome.{Outcome, accepted}
+use Rattle.answers.specs.Outcome.{Outcome, accepted, refused}
+use Rattle.answers.proofs.Claims.{refused-accepted, refused-number}
 use Rattle.periods.specs.Period.{anyPeriod}
 use Rattle.periods.specs.Edition.{turnsOf}
 use Rattle.runs.specs.declared.Record.{Record}
@@ -16,6 +18,8 @@ use Rattle.runs.specs.Table.{runsOf}
 use Rattle.nodes.specs.Node.{nodesAt}
 use Rattle.nodes.specs.Calls.{nodesOutcome, nodesTable, NodesMeaning, Rising, ListsNodes}
 use Rattle.runs.proofs.Listed.{runs-listed}
+use Rattle.runs.proofs.Few.{table-at-most}
+use Rattle.nodes.proofs.WhiteNodes.{nodes-at-most}
 use Rattle.nodes.proofs.CallClaims.{listed-nodes, nodes-too-long, nodes-bad-edition, nodes-outside, nodes-few, nodes-all}
 use Rattle.runs.proofs.Determined.{lists-unique}
 use Rattle.nodes.specs.Calls as calls
@@ -85,3 +89,14 @@ nodes-determined w edition x t o u (calls.NodesMeaning.listed h i k rows L numbe
       e ∙ ap (λ (ns : List ℕ). accepted (length ns ∷ [])) q ∙ g .0,
       f ∙ ap (λ (ns : List ℕ). ns ++ drop (length ns) t) q ∙ g .1,
     )
+
+-- ---- how large the table must be
+
+-- CLAIM: n - 1 places suffice, since a word has fewer runs than symbols: no answer that means what the documents say is 7
+pub nodes-suffice : (w : List ℕ) (edition x : ℕ) (t : List ℕ) → length w - 1 ≤ length t → (o : Outcome) (u : List ℕ) → NodesMeaning w edition x t o u → (i : ℕ) → o ≢ refused 7 i
+nodes-suffice w edition x t k o u (calls.NodesMeaning.too-long h e f) i y = omega (arith, refused-number o 1 7 0 i e y)
+nodes-suffice w edition x t k o u (calls.NodesMeaning.bad-edition h d e f) i y = omega (arith, refused-number o 12 7 0 i e y)
+nodes-suffice w edition x t k o u (calls.NodesMeaning.outside h d b e f) i y = omega (arith, refused-number o 6 7 0 i e y)
+nodes-suffice w edition x t k o u (calls.NodesMeaning.too-few h d b rows L numbers N l e f) i y =
+    omega (arith, ap length (numbers-same w edition x rows numbers L N), nodes-at-most (turnsOf edition) w x, table-at-most w)
+nodes-suffice w edition x t k o u (calls.NodesMeaning.listed h d b rows L numbers N l e f) i y = refused-accepted o 7 i (length numbers ∷ []) y e

@@ -1,25 +1,25 @@
 -- Write a page, outcome by outcome: each is the case of `pageOutcome` and `pageTable` that the judge's verdict and the test for room lead to. It says what item 3
--- asks (page-means), and accepts exactly when the judge does and 61 bytes a block are lent (page-accepted). By cases on the verdict. Assumes nothing.
+-- asks (page-means), and accepts exactly when the judge does and 61 bytes a block are lent (page-accepted), so that 61 for every two symbols suffice
+-- (page-suffice). By cases on the verdict. Assumes nothing.
 use mathlib.Core.Path.{_≡_, refl, sym, ap, _∙_, subst}
 use mathlib.Core.Logic.{_↔_}
 use mathlib.Core.List.{List, [], _∷_, _++_}
-use Prim.Native.Nat.{ℕ, _*_, _≤_, _<_}
+use Prim.Native.Nat.{ℕ, _*_, _/_, _≤_, _<_}
 use native.Mathlib.Omega.{arith}
 use native.Mathlib.Decide.{decLt}
 use borrow.Author.Tests.{lt-ltb, le-ltb}
 use lib.ListN.{length, drop}
-use Rattle.answers.specs.Outcome.{Outcome, accepted, refused, limit, tableUnless}
+use Rattle.answers.specs.Outcome.{Outcome, accepted, refused, limit, unlessRefused, tableUnless}
 use Rattle.answers.proofs.Claims.{refused-accepted}
 use Rattle.periods.specs.Period.{anyPeriod}
 use Rattle.periods.specs.Edition.{turnsOf}
 use Rattle.factors.specs.Factorization.{Factorization}
 use Rattle.repetitions.specs.Block.{Block}
 use Rattle.repetitions.specs.Judge.{SplitMeaning, splitOutcome}
-use Rattle.repetitions.proofs.Blocks.{edition-two-turns}
+use Rattle.repetitions.proofs.Blocks.{edition-two-turns, edition-half}
 use Rattle.repetitions.proofs.JudgeClaims.{split-means, AcceptedSplit, accepted-split}
-use Rattle.writers.specs.Line.{printedOutcome}
 use Rattle.page_lines.specs.Line.{lineBytes}
-use Rattle.pages.specs.Page.{page, pageOutcome, pageTable, PageMeaning, refused-split, too-few, written}
+use Rattle.pages.specs.Page.{page, printedOutcome, pageOutcome, pageTable, PageMeaning, refused-split, too-few, written}
 use Rattle.pages.proofs.PageClaims.{lines-there, page-length}
 
 -- what the call gives
@@ -93,3 +93,14 @@ module _ (w : List ℕ) (edition : ℕ) (ends t : List ℕ) where
           let A = accepted-split w edition ends (length ends ∷ []) (sym e) in
           let n = bytes w edition ends (A .0) (A .3) in
           sym (page-written (length ends ∷ []) (sym e) (omega (arith, n)) .0) ∙ ap (λ (b : ℕ). accepted (b ∷ [])) n
+
+  -- CLAIM: with 61 bytes for each of n/2 blocks 7 never comes: the judge's refusal, or the page
+  pub page-suffice : 61 * (length w / 2) ≤ length t → pageOutcome w edition ends (length t) ≡ unlessRefused (splitOutcome w edition ends) (accepted (61 * length ends ∷ []))
+  page-suffice h = go (splitOutcome w edition ends) refl
+    where
+      go : (o : Outcome) → o ≡ splitOutcome w edition ends → pageOutcome w edition ends (length t) ≡ unlessRefused (splitOutcome w edition ends) (accepted (61 * length ends ∷ []))
+      go (refused x i) e = sym (page-refused x i e .0) ∙ rw (← e) refl
+      go (accepted v) e =
+          let A = accepted-split w edition ends v e in
+          let n = bytes w edition ends (A .0) (A .3) in
+          sym (page-written v e (omega (arith, n, edition-half edition w (length w) ends (A .3))) .0) ∙ ap (λ (b : ℕ). accepted (b ∷ [])) n ∙ rw (← e) refl

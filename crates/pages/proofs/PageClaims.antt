@@ -14,7 +14,7 @@ use Rattle.periods.proofs.Claims.{smallest-period-is, smallest-period-unique}
 use Rattle.runs.specs.Number.{runNumber, blockNumbers}
 use Rattle.runs.proofs.Rows.{part-long}
 use Rattle.runs.proofs.Number.{run-number-at-most}
-use Rattle.runs.proofs.Few.{runs-within}
+use Rattle.runs.proofs.Few.{table-at-most}
 use Rattle.factors.specs.Factorization.{Chain, Factorization, textOfBlocks}
 use Rattle.repetitions.specs.Block.{Block}
 use Rattle.repetitions.proofs.Blocks.{block-up, block-unit}
@@ -47,7 +47,7 @@ module _ (w : List ℕ) (short : length w ≤ greatest) where
       let unit-fits : p ≤ greatest = omega (arith, K .0, u .1) in
       let turns-fit : length s / p ≤ greatest = omega (arith, K .0, div-le-self (length s) p) in
       let rest-fits : length s % p ≤ greatest = omega (arith, K .0, mod-le (length s) p) in
-      let run-fits : runNumber w i j ≤ greatest = omega (arith, run-number-at-most w i j, runs-within w) in
+      let run-fits : runNumber w i j ≤ greatest = omega (arith, run-number-at-most w i j, table-at-most w) in
       (refl, (number-fits, (first-fits, (last-fits, (unit-fits, (turns-fit, (rest-fits, (run-fits, tt))))))))
 
   page-line-one : (number i j : ℕ) → Piece w i j → number ≤ j → OneLine (pageLine w number i j)

@@ -1,10 +1,13 @@
 -- The page of a split: "Each block of a split becomes one line of exactly 60 characters and byte 10." What the call answers, what it writes, and what that
 -- means.
 use mathlib.Core.Path.{_≡_}
+use mathlib.Core.Bool.{cond}
 use mathlib.Core.List.{List, [], _∷_, _++_}
 use Prim.Native.Nat.{ℕ, suc, _+_, _-_, _*_, _/_, _%_, _≤_, _<_}
+use lib.Dec.{ltb}
 use lib.ListN.{length, drop}
-use Rattle.answers.specs.Outcome.{Outcome, accepted, refused, limit, unlessRefused, tableUnless}
+use Rattle.answers.specs.declared.Refusal.the-variants.{TooFewPlaces}
+use Rattle.answers.specs.Outcome.{Outcome, accepted, refused, refusal, limit, unlessRefused, tableUnless}
 use Rattle.periods.specs.Period.{part, SmallestPeriod, smallestPeriod, anyPeriod}
 use Rattle.periods.specs.Edition.{Edition, turnsOf}
 use Rattle.runs.specs.Number.{blockNumbers}
@@ -12,7 +15,6 @@ use Rattle.factors.specs.Factorization.{Factorization, textOfBlocks}
 use Rattle.repetitions.specs.Block.{Block}
 use Rattle.repetitions.specs.Judge.{SplitMeaning, splitOutcome}
 use Rattle.paths.specs.Graph.{Segment}
-use Rattle.writers.specs.Line.{printedOutcome}
 use Rattle.page_lines.specs.Line.{line, lineBytes, OneLine}
 
 -- the line of the block with a number between boundaries i and j
@@ -22,6 +24,10 @@ pageLine w number i j = line (blockNumbers w number i j) (part w i (i + smallest
 -- the lines of the blocks with these ends; a split of no blocks has the empty page
 abbrev pub page : List ℕ → List ℕ → List ℕ
 page w ends = textOfBlocks (pageLine w) 0 0 ends
+
+-- a text, where so many bytes are lent
+abbrev pub printedOutcome : List ℕ → ℕ → Outcome
+printedOutcome s room = cond (ltb room (length s)) (refusal TooFewPlaces) (accepted (length s ∷ []))
 
 -- "The answer is the count of bytes written." "Errors: judge's order, then 7." So many bytes are lent.
 unfoldable pub pageOutcome : List ℕ → ℕ → List ℕ → ℕ → Outcome

@@ -1,10 +1,11 @@
 -- Path of a split gives the run numbers of the one path that goes with the split (path-means): there is only one run that encloses a block and has its unit, so
--- the first in the table is that run. That run starts where the symbols a unit apart cease to agree to the left (run-starts). Assumes nothing.
+-- the first in the table is that run. That run starts where the symbols a unit apart cease to agree to the left (run-starts). A place for every two symbols
+-- suffices (path-suffice). Assumes nothing.
 use mathlib.Core.Path.{_≡_, refl, sym, ap, _∙_, subst}
 use mathlib.Core.Logic.{_≢_}
 use mathlib.Core.Bool.{cond, _&&_}
 use mathlib.Core.List.{List, [], _∷_, _++_}
-use Prim.Native.Nat.{ℕ, zero, suc, _+_, _-_, _*_, _≤_, _<_}
+use Prim.Native.Nat.{ℕ, zero, suc, _+_, _-_, _*_, _/_, _≤_, _<_}
 use native.Mathlib.Omega.{arith}
 use native.Mathlib.Decide.{decLt, ℕ-discrete}
 use borrow.Author.Tests.{lt-ltb, le-ltb, eq-eqb, ne-eqb}
@@ -26,6 +27,7 @@ use Rattle.paths.specs.Calls.{runNumbers, pathOutcome, pathTable, PathMe
 use Rattle.runs.specs.Number.{encloses?, firstNumber, runNumber}
 use Rattle.paths.specs.Walk.{leftEnd}
 use Rattle.paths.proofs.Encodings.{encodes, encoding-ends, block-segment, segment-one-number, segment-period}
+use Rattle.repetitions.proofs.Blocks.{edition-half}
 use Rattle.repetitions.proofs.JudgeClaims.{split-means, AcceptedSplit, accepted-split}
 use Rattle.runs.proofs.Number.{Passes, first-none, first-sound}
 
@@ -148,6 +150,16 @@ module _ (w : List ℕ) (edition : ℕ) (ends t : List ℕ) where
 
   pub path-answered : (o : Outcome) (u : List ℕ) → PathPromised w edition ends t o u → (o ≡ pathOutcome w edition ends (length t)) × ((u ≡ pathTable w edition ends t) × PathMeaning w edition ends t o u)
   path-answered o u P = (P .answer, (P .table, rw (P .answer, P .table) path-means))
+
+  -- CLAIM: with n/2 places path of a split answers just what the judge does, so that 7 never comes
+  pub path-suffice : length w / 2 ≤ length t → pathOutcome w edition ends (length t) ≡ splitOutcome w edition ends
+  path-suffice h = go (splitOutcome w edition ends) refl
+    where
+      go : (o : Outcome) → o ≡ splitOutcome w edition ends → pathOutcome w edition ends (length t) ≡ splitOutcome w edition ends
+      go (refused x i) e = sym (path-promised-refused x i e .answer) ∙ e
+      go (accepted v) e =
+          let A = accepted-split w edition ends v e in
+          sym (path-promised-numbered v e (omega (arith, edition-half edition w (length w) ends (A .3))) .answer) ∙ ap accepted (sym (A .1)) ∙ e
 
 -- ---- the left end of a block's run
 

@@ -11,7 +11,8 @@ use answers::Refusal;
 
 // Path of a split: writes the run number of each block, and gives the number of blocks. With the
 // ends these are the encoding of the one path that goes with the split. Refusals: those of
-// judge a split, then 7. Time: quadratic in the word's length at most; 97 KiB of stack.
+// judge a split, then 7; with n/2 places for n symbols 7 never comes. Time: quadratic in the word's
+// length at most; 97 KiB of stack.
 pub fn path_of_split(w: &[u8], edition: u32, ends: &[u32], table: &mut [u32]) -> Counted
     ensures answer { λ r. ⌜ countedView r ≡ pathOutcome (now (w .entry)) edition (now (ends .entry)) (length (now (table .entry))) ⌝ }
     ensures written { λ r. ⌜ now (table .exit) ≡ pathTable (now (w .entry)) edition (now (ends .entry)) (now (table .entry)) ⌝ }

@@ -1,13 +1,15 @@
 -- Best split says all of demand 3, for every word, edition, choice and tables: `best-means`. The blocks of an edition are pieces that a test decides, so what every
 -- best split says holds for them (factorizer/proofs/BestClaims.antt); here are the refusals 1 and 12. Assumes nothing.
 use mathlib.Core.Path.{_≡_, refl, sym, _∙_}
+use mathlib.Core.Logic.{_≢_}
 use mathlib.Core.List.{List}
-use Prim.Native.Nat.{ℕ, _≤_, _<_}
+use Prim.Native.Nat.{ℕ, _/_, _≤_, _<_}
 use native.Mathlib.Omega.{arith}
 use native.Mathlib.Decide.{decLt}
 use borrow.Author.Tests.{lt-ltb, le-ltb}
 use lib.ListN.{length, take}
 use Rattle.answers.specs.Outcome.{Outcome, refused, limit}
+use Rattle.answers.proofs.Claims.{refused-number}
 use Rattle.periods.specs.Period.{Repetition, repetition?, anyPeriod}
 use Rattle.periods.specs.Edition.{Edition, turnsOf}
 use Rattle.periods.proofs.Editions.{test-of-edition, test-of-no-edition, edition?}
@@ -16,8 +18,9 @@ use Rattle.factors.specs.Table.{none, sizeIn}
 use Rattle.factors.proofs.Optimal.{Answers}
 use Rattle.factorizer.specs.Best.{Reported}
 use Rattle.factorizer.proofs.Rules.{repetition-decides}
-use Rattle.factorizer.proofs.BestClaims.{piece-answers, prefix-reported, ChosenGiven, chosen-means}
+use Rattle.factorizer.proofs.BestClaims.{piece-answers, prefix-reported, ChosenGiven, chosen-means, chosen-suffice}
 use Rattle.repetitions.specs.Block.{Block, block?}
+use Rattle.repetitions.proofs.Blocks.{edition-half}
 use Rattle.repetitions.specs.BestSplit.{told, bestOutcome, bestEndsTable, bestWork, BestMeaning, too-long, bad-edition, chosen}
 
 -- CLAIM: the theorem of factors, for repetitions of any turn number
@@ -96,3 +99,9 @@ module _ (w : List ℕ) (edition choice : ℕ) (e t : List ℕ) where
   pub best-answered : (o : Outcome) (x y : List ℕ) → Promised o x y
       → (o ≡ bestOutcome w edition choice e t) × ((x ≡ bestEndsTable w edition choice e t) × ((y ≡ bestWork w edition choice t) × BestMeaning w edition choice e t o x y))
   best-answered o x y P = (P .answer, (P .ends, (P .work, rw (P .answer, P .ends, P .work) best-means)))
+
+  -- CLAIM: n/2 places for the ends suffice: no answer that means what the documents say is 7
+  pub best-suffice : length w / 2 ≤ length e → (o : Outcome) (x y : List ℕ) → BestMeaning w edition choice e t o x y → (i : ℕ) → o ≢ refused 7 i
+  best-suffice room o x y (too-long h f a b) i z = omega (arith, refused-number o 1 7 0 i f z)
+  best-suffice room o x y (bad-edition h k f a b) i z = omega (arith, refused-number o 12 7 0 i f z)
+  best-suffice room o x y (chosen h k C) i z = chosen-suffice (Repetition anyPeriod (turnsOf edition)) w choice e t (edition-half edition w (length w)) room o x y C i z

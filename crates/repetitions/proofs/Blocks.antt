@@ -3,7 +3,7 @@
 use mathlib.Core.Path.{_≡_}
 use mathlib.Core.Bool.{Bool}
 use mathlib.Core.List.{List}
-use Prim.Native.Nat.{ℕ, _+_, _*_, _≤_, _<_}
+use Prim.Native.Nat.{ℕ, _+_, _*_, _/_, _≤_, _<_}
 use native.Mathlib.Omega.{arith}
 use native.Mathlib.Nat.{mul-le-mul-right}
 use lib.Dec.{T}
@@ -13,8 +13,8 @@ use Rattle.periods.specs.Edition.{turnsOf}
 use Rattle.periods.proofs.Editions.{two-turns}
 use Rattle.periods.proofs.InPlace.{SmallestIn, symbol, placed-part, part-smallest-in, part-smallest-out}
 use Rattle.periods.proofs.Claims.{part-smallest}
-use Rattle.factors.specs.Factorization.{Chain, Factorization}
-use Rattle.factors.proofs.Chains.{chain-map, chain-long}
+use Rattle.factors.specs.Factorization.{Factorization, size}
+use Rattle.factors.proofs.Chains.{chain-map, size-half}
 use Rattle.factorizer.proofs.Pieces.{piece-up}
 use Rattle.factorizer.proofs.Rules.{repetition-decides}
 use Rattle.repetitions.specs.Block.{Block}
@@ -81,9 +81,12 @@ edition-two-turns edition w n es = factorization-fewer-turns anyPeriod 2 (turnsO
 
 -- ---- the number of blocks
 
--- CLAIM: with two turns or more each block takes two symbols or more
-pub half : (allowed : ℕ → Bool) (k : ℕ) (w : List ℕ) → 2 ≤ k → (i : ℕ) (es : List ℕ) (m : ℕ) → Chain (Block allowed k w) i es m → i + 2 * length es ≤ m
-half allowed k w two i es m c = omega (arith, chain-long (Block allowed k w) 2 long i es m c)
+-- CLAIM: "a split has at most n/2 blocks, rounded down", of any turn number from two up, whatever periods are allowed, and of either edition
+pub blocks-half : (allowed : ℕ → Bool) (k : ℕ) (w : List ℕ) → 2 ≤ k → (m : ℕ) (es : List ℕ) → Factorization (Block allowed k w) m es → size es ≤ m / 2
+blocks-half allowed k w two = size-half (Block allowed k w) long
   where
     long : (a b : ℕ) → Block allowed k w a b → a + 2 ≤ b
     long a b K = omega (arith, mul-le-mul-right (K .1 .period) two, block-long allowed k w a b K, K .1 .smallest .period .positive)
+
+pub edition-half : (edition : ℕ) (w : List ℕ) (m : ℕ) (es : List ℕ) → Factorization (Block anyPeriod (turnsOf edition) w) m es → size es ≤ m / 2
+edition-half edition w = blocks-half anyPeriod (turnsOf edition) w (two-turns edition)

@@ -8,8 +8,9 @@ use answers::Refusal;
 
 // Best split: choice 1 is fewest, 2 is most. Gives the size, and writes the ends of the
 // factorization of that size whose last block is longest, then the one before it, and so on. The
-// working table afterwards holds the best size of each prefix length. Refusals: 1, 12, 8, 9, 2, 7.
-// Time: quadratic in the word's length at most. 300 bytes of stack, and 48 a block.
+// working table afterwards holds the best size of each prefix length. Refusals: 1, 12, 8, 9, 2, 7;
+// with n/2 places for the ends of n symbols 7 never comes. Time: quadratic in the word's length at
+// most. 300 bytes of stack, and 48 a block.
 pub fn best_split(
     w: &[u8],
     edition: u32,

@@ -4,14 +4,15 @@ use mathlib.Core.List.{List, [], _∷_, _++_}
 use Prim.Native.Nat.{ℕ}
 use native.Mathlib.Omega.{arith}
 use lib.ListN.{length, replicate}
-use Rattle.answers.specs.Outcome.{accepted, refused}
+use lib.Seq.{sets}
 use Rattle.periods.specs.Period.{smallestPeriod, repetition?}
 use Rattle.periods.specs.Edition.{turnsOf}
 use Rattle.runs.specs.Table.{run?, leastStart, rootOf, runBetween, rowsAt, rowsBefore, runsOf}
 use Rattle.factors.specs.Factorization.{cell, bestEnds, textOfBlocks}
 use Rattle.decimals.specs.Decimal.{digitsIn, digitCount, fieldsAfter}
 use Rattle.runs.specs.Number.{firstNumber, runNumber}
-use Rattle.report.specs.Text.{refusedText, runLines, blockLine, splitText, text, reportOutcome, reportTable, fewestName, mostName, passesName}
+use Rattle.report.specs.Text.{runLines, blockLine, splitText, text, fewestName, mostName, passesName}
+use Rattle.report.specs.Records.{longestText}
 use Rattle.writers.specs.Line.{line}
 use Rattle.periods.proofs.Words.{word-aabaabaa}
 use Rattle.report.proofs.Splits.{text-is}
@@ -61,30 +62,17 @@ pub taken-at-1024 : (w : List ℕ) → length w ≡ 1024
 taken-at-1024 w e =
     text-is w (omega arith) ∙ ap (λ (n : ℕ). line passesName (n ∷ []) ++ (runLines 0 (runsOf w) ++ (splitText w 1 fewestName ++ splitText w 2 mostName))) e
 
--- aabaabaa's ten lines in a table with two places more, and their count
-pub report-of-aabaabaa : reportOutcome word-aabaabaa 141 ≡ accepted (141 ∷ [])
-unfolding reportOutcome text line fieldsAfter runLines blockLine textOfBlocks splitText digitsIn digitCount runsOf rowsBefore rowsAt runBetween run? rootOf leastStart repetition? smallestPeriod turnsOf cell bestEnds runNumber firstNumber
-report-of-aabaabaa = refl
+-- aabaabaa's ten lines have 141 bytes; in a table with two places more, only the first change
+pub report-of-aabaabaa : length (text word-aabaabaa) ≡ 141
+report-of-aabaabaa = ap length text-of-aabaabaa
 
-pub report-of-aabaabaa-into : reportTable word-aabaabaa (replicate 143 7) ≡ tenLines ++ (7 ∷ 7 ∷ [])
-unfolding reportTable text line fieldsAfter runLines blockLine textOfBlocks splitText digitsIn digitCount runsOf rowsBefore rowsAt runBetween run? rootOf leastStart repetition? smallestPeriod turnsOf cell bestEnds runNumber firstNumber
-report-of-aabaabaa-into = refl
+pub report-of-aabaabaa-into : sets (replicate 143 7) 0 (text word-aabaabaa) ≡ tenLines ++ (7 ∷ 7 ∷ [])
+report-of-aabaabaa-into = ap (sets (replicate 143 7) 0) text-of-aabaabaa
 
--- the empty word's 25 bytes, and one place too few
-pub report-of-empty : reportOutcome [] 25 ≡ accepted (25 ∷ [])
-unfolding reportOutcome text line fieldsAfter runLines blockLine textOfBlocks splitText digitsIn digitCount runsOf rowsBefore rowsAt runBetween run? rootOf leastStart repetition? smallestPeriod turnsOf cell bestEnds runNumber firstNumber
-report-of-empty = refl
+-- of the empty word's 25 bytes as many are stored as there are places
+pub report-of-empty-into : sets (7 ∷ 7 ∷ []) 0 (text []) ≡ 112 ∷ 97 ∷ []
+report-of-empty-into = ap (sets (7 ∷ 7 ∷ []) 0) text-of-empty
 
-pub report-a-place-short : reportOutcome [] 24 ≡ refused 7 0
-unfolding reportOutcome text line fieldsAfter runLines blockLine textOfBlocks splitText digitsIn digitCount runsOf rowsBefore rowsAt runBetween run? rootOf leastStart repetition? smallestPeriod turnsOf cell bestEnds runNumber firstNumber
-report-a-place-short = refl
-
--- after a refusal the bytes stay
-pub report-refused-keeps : reportTable [] (7 ∷ 7 ∷ []) ≡ 7 ∷ 7 ∷ []
-unfolding reportTable text line fieldsAfter runLines blockLine textOfBlocks splitText digitsIn digitCount runsOf rowsBefore rowsAt runBetween run? rootOf leastStart repetition? smallestPeriod turnsOf cell bestEnds runNumber firstNumber
-report-refused-keeps = refl
-
--- only the first bytes change
-pub report-into : reportTable (replicate 1025 97) (replicate 12 7) ≡ refusedText ++ (7 ∷ 7 ∷ [])
-unfolding reportTable text
-report-into = refl
+-- the most bytes that a report has
+pub longest-is-145462 : longestText ≡ 145462
+longest-is-145462 = refl

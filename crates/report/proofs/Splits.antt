@@ -16,6 +16,7 @@ use Rattle.laws.proofs.OneOrTwo.{one-or-two}
 use Rattle.answers.proofs.Claims.{refused-accepted}
 use Rattle.periods.specs.Period.{repetition?, anyPeriod}
 use Rattle.runs.specs.Table.{runsOf}
+use Rattle.runs.proofs.Few.{table-at-most}
 use Rattle.factors.specs.Factorization.{Factorization, choiceOf, Cell, unreachable, reached, bestEnds}
 use Rattle.factors.specs.Table.{rows}
 use Rattle.factors.proofs.Optimal.{Answers}
@@ -23,10 +24,8 @@ use Rattle.repetitions.specs.Block.{Block, block?}
 use Rattle.factorizer.specs.Best.{sizeOutcome, sizeEnds, settledEnds, settledWork}
 use Rattle.factorizer.proofs.BestClaims.{chosen-settled}
 use Rattle.repetitions.specs.BestSplit.{lastCell, bestOutcome, bestEndsTable}
-use Rattle.periods.proofs.Editions.{two-turns}
-use Rattle.repetitions.proofs.Blocks.{half}
+use Rattle.repetitions.proofs.Blocks.{edition-half}
 use Rattle.repetitions.proofs.BestClaims.{word-answers, Promised, promised-chosen}
-use Rattle.finder.specs.Find.{recordLimit}
 use Rattle.report.specs.Text.{printedEdition, printedTurns, programLimit, passesName, fewestName, mostName, noneText, runLines, blockLines, splitLines, splitText, text}
 use Rattle.writers.specs.Line.{line}
 use Rattle.report.specs.Records.{mostBlocks, splitBytes, longestText}
@@ -36,10 +35,6 @@ use Rattle.report.proofs.Lines.{run-lines-long, block-lines-long}
 -- the ends of the best split
 abbrev pub endsOf : List ℕ → ℕ → List ℕ
 endsOf w choice = bestEnds (choiceOf choice) (block? anyPeriod printedTurns w) (length w)
-
--- a split has at most half as many blocks as the word has symbols
-pub split-half : (w es : List ℕ) → Factorization (Block anyPeriod printedTurns w) (length w) es → 2 * length es ≤ length w
-split-half w es F = omega (arith, half anyPeriod printedTurns w (two-turns printedEdition) 0 es (length w) F)
 
 -- an answer of so many blocks, with the ends' table x
 pub record Blocked (w : List ℕ) (choice : ℕ) (name : List ℕ) (size : ℕ) (x : List ℕ) : Type 0 where
@@ -65,7 +60,7 @@ module _ (w : List ℕ) (choice : ℕ) (name e t : List ℕ) (held : length w �
           → name ++ noneText ≡ splitLines w name v (endsOf w choice)
       go unreachable A f = refl
       go (reached s p) A f =
-          let k : s ≤ length e = omega (arith, split-half w (endsOf w choice) (A .factorization), A .sized) in
+          let k : s ≤ length e = omega (arith, edition-half printedEdition w (length w) (endsOf w choice) (A .factorization), A .sized) in
           let z : refusal r ≡ accepted (s ∷ []) = rw (le-ltb (length e) s k) at f in
           absurd (refused-accepted (refusal r) _ _ (s ∷ []) refl z)
 
@@ -78,14 +73,14 @@ module _ (w : List ℕ) (choice : ℕ) (name e t : List ℕ) (held : length w �
           → x ≡ sizeEnds v (endsOf w choice) e → Blocked w choice name size x
       go unreachable c A f g = absurd (refused-accepted (accepted (size ∷ [])) 2 0 (size ∷ []) f refl)
       go (reached s p) c A f g =
-          let k : s ≤ length e = omega (arith, split-half w (endsOf w choice) (A .factorization), A .sized) in
+          let k : s ≤ length e = omega (arith, edition-half printedEdition w (length w) (endsOf w choice) (A .factorization), A .sized) in
           let z : accepted (size ∷ []) ≡ accepted (s ∷ []) = rw (le-ltb (length e) s k) at f in
           let y : size ≡ s = cc in
           let q : size - 0 ≡ s = omega arith in
           let h : x ≡ endsOf w choice ++ drop s e = rw (le-ltb (length e) s k) at g in
           record {
             split = A .factorization;
-            few = omega (arith, split-half w (endsOf w choice) (A .factorization), A .sized);
+            few = omega (arith, edition-half printedEdition w (length w) (endsOf w choice) (A .factorization), A .sized);
             ends = rw (q, h) (take-at (endsOf w choice) (drop s e) s (A .sized));
             lines = rw (c, y) refl;
           }
@@ -109,12 +104,12 @@ split-long w choice name h k = go (lastCell printedTurns w choice) (word-answers
           length-append (line name (s ∷ [])) (blockLines w 0 0 (endsOf w choice)),
           line-long name (s ∷ []),
           block-lines-long w (endsOf w choice) 0 0,
-          split-half w (endsOf w choice) (A .factorization),
+          edition-half printedEdition w (length w) (endsOf w choice) (A .factorization),
         )
 
 -- CLAIM: no text is longer
-pub text-long : (w : List ℕ) → length w ≤ programLimit → length (runsOf w) ≤ recordLimit → length (text w) ≤ longestText
-text-long w h k =
+pub text-long : (w : List ℕ) → length w ≤ programLimit → length (text w) ≤ longestText
+text-long w h =
     let A = line passesName (length w ∷ []) in
     let R = runLines 0 (runsOf w) in
     let F = splitText w 1 fewestName in
@@ -127,6 +122,7 @@ text-long w h k =
       length-append F M,
       line-long passesName (length w ∷ []),
       run-lines-long (runsOf w) 0,
+      table-at-most w,
       split-long w 1 fewestName h (omega arith),
       split-long w 2 mostName h (omega arith),
     )

@@ -2,15 +2,14 @@
 use mathlib.Core.Path.{_≡_}
 use mathlib.Core.List.{List, [], _∷_, _++_}
 use Prim.Native.Nat.{ℕ, _≤_, _<_}
-use lib.ListN.{length, drop}
-use Rattle.answers.specs.Outcome.{Outcome, accepted, refused}
+use lib.ListN.{length}
+use lib.Seq.{sets}
 use Rattle.periods.specs.Period.{anyPeriod}
 use Rattle.runs.specs.declared.Record.{Record}
 use Rattle.runs.specs.Run.{Lists}
 use Rattle.factors.specs.Factorization.{Choice, smallest, largest, size, Best}
 use Rattle.repetitions.specs.Block.{Block}
 use Rattle.repetitions.specs.BestSplit.{Unsplittable}
-use Rattle.finder.specs.Find.{recordLimit}
 use Rattle.report.specs.Text.{programLimit, printedTurns, passesName, fewestName, mostName, noneText, refusedText, runLines, blockLines}
 use Rattle.writers.specs.Line.{line}
 
@@ -26,12 +25,9 @@ pub data Printed (w s : List ℕ) : Type 0 where
       length w ≤ programLimit → (rows : List Record) → Lists w rows → (fewest most : List ℕ) → SplitPrinted w smallest fewestName fewest → SplitPrinted w largest mostName most
       → s ≡ line passesName (length w ∷ []) ++ (runLines 0 rows ++ (fewest ++ most)) → Printed w s
 
--- if the program takes the word, it holds records of all its runs
-abbrev pub Held : List ℕ → Type 0
-Held w = length w ≤ programLimit → (rows : List Record) → Lists w rows → length rows ≤ recordLimit
-
--- t is the lent table of bytes at entry, u at exit
-pub data ReportMeaning (w t : List ℕ) (o : Outcome) (u : List ℕ) : Type 0 where
-  too-many-runs : length w ≤ programLimit → (rows : List Record) → Lists w rows → recordLimit < length rows → o ≡ refused 7 0 → u ≡ t → ReportMeaning w t o u
-  too-few : Held w → (s : List ℕ) → Printed w s → length t < length s → o ≡ refused 7 0 → u ≡ t → ReportMeaning w t o u
-  reported : Held w → (s : List ℕ) → Printed w s → length s ≤ length t → o ≡ accepted (length s ∷ []) → u ≡ s ++ drop (length s) t → ReportMeaning w t o u
+-- t is the lent table of bytes at entry, u at exit: the text is stored as far as there are bytes, and its bytes are counted
+pub record ReportMeaning (w t : List ℕ) (count : ℕ) (u : List ℕ) : Type 0 where
+  pub lines : List ℕ
+  pub printed : Printed w lines
+  pub counted : count ≡ length lines
+  pub stored : u ≡ sets t 0 lines

@@ -14,8 +14,7 @@ RunsHeld w runs count = (count ≤ recordLimit) × (take count runs ≡ runsOf w
 
 -- the program takes the word, and the first count records of a table are those of its runs
 abbrev pub RunsListed : List ℕ → List ℕ → ℕ → Type 0
-RunsListed w table count =
-    (length w ≤ programLimit) × (count ≤ recordLimit) × (stride * count ≤ length table) × (records count table ≡ runsOf w)
+RunsListed w table count = (length w ≤ programLimit) × (stride * count ≤ length table) × (records count table ≡ runsOf w)
 
 -- the most bytes of a line: its name, at most eleven for a number with its comma, and the line's end
 abbrev pub lineBytes : ℕ → ℕ → ℕ

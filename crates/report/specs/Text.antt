@@ -1,12 +1,10 @@
 -- The printed text of the bench program: "The lines are passes with n, each run in order, fewest with its size and then its blocks, and most in the same way.
 -- Each line ends with byte 10, and its numbers have no leading zeros."
-use mathlib.Core.Bool.{Bool, cond}
+use mathlib.Core.Bool.{cond}
 use mathlib.Core.List.{List, [], _∷_, _++_}
 use Prim.Native.Nat.{ℕ, suc}
 use lib.Dec.{ltb}
-use lib.ListN.{length, drop}
-use Rattle.answers.specs.declared.Refusal.the-variants.{TooFewPlaces}
-use Rattle.answers.specs.Outcome.{Outcome, accepted, refusal}
+use lib.ListN.{length}
 use Rattle.periods.specs.Period.{anyPeriod}
 use Rattle.periods.specs.Edition.{turnsOf}
 use Rattle.runs.specs.declared.Record.{Record}
@@ -16,7 +14,6 @@ use Rattle.writers.specs.Line.{line}
 use Rattle.repetitions.specs.Block.{block?}
 use Rattle.repetitions.specs.BestSplit.{lastCell}
 use Rattle.runs.specs.Number.{blockNumbers}
-use Rattle.finder.specs.Find.{recordLimit}
 
 -- "The program holds 1,024 passes"
 abbrev pub programLimit : ℕ
@@ -84,16 +81,3 @@ unfoldable pub text : List ℕ → List ℕ
 text w =
     cond (ltb programLimit (length w)) refusedText
     (line passesName (length w ∷ []) ++ (runLines 0 (runsOf w) ++ (splitText w fewest fewestName ++ splitText w most mostName)))
-
--- ---- the report: the text in lent bytes, with their count; 7 where there are too few, or more runs than the program holds records of
-
--- more runs than records, in a word that the program holds
-abbrev pub tooMany : List ℕ → Bool
-tooMany w = cond (ltb programLimit (length w)) Bool.false (ltb recordLimit (length (runsOf w)))
-
-unfoldable pub reportOutcome : List ℕ → ℕ → Outcome
-reportOutcome w places =
-    cond (tooMany w) (refusal TooFewPlaces) (cond (ltb places (length (text w))) (refusal TooFewPlaces) (accepted (length (text w) ∷ [])))
-
-unfoldable pub reportTable : List ℕ → List ℕ → List ℕ
-reportTable w t = cond (tooMany w) t (cond (ltb (length t) (length (text w))) t (text w ++ drop (length (text w)) t))

@@ -1,31 +1,24 @@
 // For this crate's call: the caller shows what each function requires. Every function stores from
-// place at on, as far as there are bytes, and gives the place after what it wrote; so a first pass
-// over no bytes counts, and a second writes.
+// place at on, as far as there are bytes, and gives the place after what it wrote.
 ghost use mathlib.Core.Path.{_≡_};
 ghost use Prim.Native.Nat.{_≤_, _<_, _+_, _*_, _^_};
-ghost use lib.ListN.{length, take};
+ghost use lib.ListN.{length};
 ghost use lib.Seq.{sets};
-ghost use Rattle.answers.specs.Outcome.{countedView};
 ghost use Rattle.periods.specs.Period.{anyPeriod};
-ghost use Rattle.runs.specs.Table.{stride, runsOf, records};
+ghost use Rattle.runs.specs.Table.{stride, records};
 ghost use Rattle.factors.specs.Factorization.{Factorization, fewest, most};
 ghost use Rattle.repetitions.specs.Block.{Block};
-ghost use Rattle.writers.specs.Line.{printedOutcome, printedTable};
 ghost use Rattle.finder.specs.Find.{recordLimit};
-ghost use Rattle.report.specs.Text.{programLimit, printedTurns, refusedText, runLines, blockLine, blockLines, splitText, text};
+ghost use Rattle.report.specs.Text.{programLimit, printedTurns, runLines, blockLine, blockLines, splitText, text};
 ghost use Rattle.report.specs.Records.{RunsHeld, RunsListed};
 use crate::EDITION;
 use crate::PROGRAM_LIMIT;
 use answers::Counted;
-use answers::Refusal;
 use finder::RECORDS;
 use runs::Record;
 
 // A block has two symbols at least.
 const MOST_BLOCKS: usize = PROGRAM_LIMIT / 2;
-
-// The report of a word that is too long.
-const REFUSED: [u8; 10] = *b"refused,1\n";
 
 // Stores the lines of the runs, from the table of their records.
 fn run_lines(table: &[u32], count: usize, out: &mut [u8], at: usize) -> usize
@@ -126,53 +119,17 @@ fn split_lines(
     }
 }
 
-// Stores the whole text, from the runs in the table and in the records.
-fn write_text(
-    w: &[u8],
-    table: &[u32],
-    runs: [Record; RECORDS],
-    count: usize,
-    out: &mut [u8],
-) -> usize
-    requires { ⌜ RunsListed (now w) (now table) count × (take count runs ≡ runsOf (now w)) ⌝ }
+// Stores the whole text of a word that the program holds, from the table of its runs.
+pub(crate) fn write_text(w: &[u8], table: &[u32], count: usize, out: &mut [u8]) -> usize
+    requires { ⌜ RunsListed (now w) (now table) count ⌝ }
     ensures { λ r. ⌜ r ≡ length (text (now (w .entry))) ⌝ }
     ensures { λ _. ⌜ now (out .exit) ≡ sets (now (out .entry)) 0 (text (now (w .entry))) ⌝ }
 {
     let zero: usize = 0;
     let passes = [w.len() as u32];
+    let runs = finder::inner::held(table, count);
     let runs_from = writers::inner::put_line(out, zero, b"passes", &passes);
     let fewest_from = run_lines(table, count, out, runs_from);
     let most_from = split_lines(w, factors::FEWEST, b"fewest", runs, count, out, fewest_from);
     split_lines(w, factors::MOST, b"most", runs, count, out, most_from)
-}
-
-// The report of a word that the program holds, from the table of its runs: counts the bytes, and
-// writes them where so many are lent.
-pub(crate) fn print(w: &[u8], table: &[u32], count: usize, out: &mut [u8]) -> Counted
-    requires { ⌜ RunsListed (now w) (now table) count ⌝ }
-    ensures { λ r. ⌜ countedView r ≡ printedOutcome (text (now (w .entry))) (length (now (out .entry))) ⌝ }
-    ensures { λ _. ⌜ now (out .exit) ≡ printedTable (text (now (w .entry))) (now (out .entry)) ⌝ }
-{
-    let runs = finder::inner::held(table, count);
-    let zero: usize = 0;
-    let size = write_text(w, table, runs, count, &mut out[zero..zero]);
-    if out.len() < size {
-        return Counted::Refused(Refusal::TooFewPlaces);
-    }
-    write_text(w, table, runs, count, out);
-    Counted::Count(size as u32)
-}
-
-// The report of a word that is too long.
-pub(crate) fn refuse(out: &mut [u8]) -> Counted
-    ensures { λ r. ⌜ countedView r ≡ printedOutcome refusedText (length (now (out .entry))) ⌝ }
-    ensures { λ _. ⌜ now (out .exit) ≡ printedTable refusedText (now (out .entry)) ⌝ }
-{
-    let zero: usize = 0;
-    let size = writers::inner::put_text(&mut out[zero..zero], zero, &REFUSED);
-    if out.len() < size {
-        return Counted::Refused(Refusal::TooFewPlaces);
-    }
-    writers::inner::put_text(out, zero, &REFUSED);
-    Counted::Count(size as u32)
 }

@@ -14,7 +14,7 @@ use Rattle.runs.specs.Calls.{runsOutcome, runsTable, RunsMeaning}
 use Rattle.runs.proofs.Entries.{no-entry, not-before}
 use Rattle.runs.proofs.RootClaims.{root-unique}
 use Rattle.runs.proofs.Listed.{runs-listed}
-use Rattle.runs.proofs.CallClaims.{runs-too-long, runs-few, runs-all}
+use Rattle.runs.proofs.CallClaims.{runs-too-long, runs-short, runs-all}
 use Rattle.runs.specs.Calls as calls
 
 -- ---- sorted lists of records
@@ -84,7 +84,7 @@ pub runs-determined : (w t : List ℕ) (o : Outcome) (u : List ℕ) → RunsMean
 runs-determined w t o u (calls.RunsMeaning.too-long h e f) = let g = runs-too-long w t h in (e ∙ g .0, f ∙ g .1)
 runs-determined w t o u (calls.RunsMeaning.too-few h rows L k e f) =
     let q = lists-unique w rows (runsOf w) L (runs-listed w) in
-    let g = runs-few w t h (subst (λ (rs : List Record). length t < stride * length rs) q k) in
+    let g = runs-short w t h (subst (λ (rs : List Record). length t < stride * length rs) q k) in
     (e ∙ g .0, f ∙ g .1)
 runs-determined w t o u (calls.RunsMeaning.listed h rows L k e f) =
     let q = lists-unique w rows (runsOf w) L (runs-listed w) in

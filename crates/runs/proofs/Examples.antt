@@ -1,7 +1,7 @@
 -- Examples of the definitions that the contracts of this crate cite, document 01's among them, computed. Assumes nothing.
 use mathlib.Core.Path.{_≡_, refl}
 use mathlib.Core.List.{[], _∷_}
-use lib.ListN.{replicate}
+use lib.ListN.{length, replicate}
 use Rattle.answers.specs.Outcome.{accepted, refused}
 use Rattle.periods.specs.Period.{smallestPeriod, repetition?}
 use Rattle.runs.specs.Table.{run?, leastStart, rootOf, runBetween, rowsAt, rowsBefore, runsOf, flat}
@@ -66,3 +66,12 @@ runs-too-long-first = refl
 pub runs-of-aa : flat (runsOf word-aa) ≡ 1 ∷ 2 ∷ 1 ∷ 1 ∷ []
 unfolding runsOf rowsBefore rowsAt runBetween run? rootOf leastStart repetition? smallestPeriod
 runs-of-aa = refl
+
+-- how near n the number of runs comes: one in two symbols, ten in fourteen
+pub one-run-in-2 : length (runsOf word-aa) ≡ 1
+unfolding runsOf rowsBefore rowsAt runBetween run? rootOf leastStart repetition? smallestPeriod
+one-run-in-2 = refl
+
+pub ten-runs-in-14 : length (runsOf (97 ∷ 97 ∷ 98 ∷ 97 ∷ 97 ∷ 98 ∷ 98 ∷ 97 ∷ 97 ∷ 98 ∷ 97 ∷ 97 ∷ 98 ∷ 98 ∷ [])) ≡ 10
+unfolding runsOf rowsBefore rowsAt runBetween run? rootOf leastStart repetition? smallestPeriod
+ten-runs-in-14 = refl

@@ -1,7 +1,7 @@
--- A word that is not empty has fewer runs than symbols (`runs-few`): each run is marked at one of the boundaries inside the word, and no boundary marks two runs.
--- A mark of a run with period p is a boundary inside it, at most p after its start, where the next p symbols are a Lyndon word; the order of symbols is the one in
--- which the symbol after the run comes before the one that the period would have there. Runs with one mark and one period are one run. With periods p < p′, the
--- Lyndon word of p′ symbols would have to come before its own suffix after p symbols, and does not. Assumes nothing.
+-- A word that is not empty has fewer runs than symbols, however they are listed (`runs-few`): each run is marked at one of the boundaries inside the word, and no
+-- boundary marks two runs. A mark of a run with period p is a boundary inside it, at most p after its start, where the next p symbols are a Lyndon word; the order of
+-- symbols is the one in which the symbol after the run comes before the one that the period would have there. Runs with one mark and one period are one run. With
+-- periods p < p′, the Lyndon word of p′ symbols would have to come before its own suffix after p symbols, and does not. Assumes nothing.
 use mathlib.Core.Path.{_≡_, refl, sym, ap, _∙_, subst, subst₂}
 use mathlib.Core.Logic.{_≢_}
 use mathlib.Core.Bool.{Bool, true, false}
@@ -13,7 +13,7 @@ use lib.ListN.{length}
 use Rattle.laws.proofs.Pigeon.{pigeon}
 use Rattle.periods.proofs.InPlace.{symbol}
 use Rattle.runs.specs.declared.Record.{Record}
-use Rattle.runs.specs.Run.{Entry}
+use Rattle.runs.specs.Run.{Entry, Lists}
 use Rattle.runs.specs.Table.{runsOf}
 use Rattle.runs.proofs.InPlace.{RunIn, run-unique, run-in}
 use Rattle.runs.proofs.Entries.{entry-same}
@@ -104,55 +104,55 @@ module _ (f : ℕ → ℕ) (n : ℕ) where
       go (no v) (yes u) = absurd (mark-not-larger N M u)
       go (no v) (no u) = equal (omega arith)
 
--- ---- the table of runs
+-- ---- a list of the runs
 
 entry-exists : (xs : List Record) (i : ℕ) → i < length xs → (r : Record) × Entry xs (suc i) r
 entry-exists [] i l = absurd (omega arith)
 entry-exists (x ∷ xs) zero l = (x, refl)
 entry-exists (x ∷ xs) (suc i) l = entry-exists xs i (omega arith)
 
--- entry i + 1 of the table, and a boundary that marks its run
-record Marked (w : List ℕ) (i : ℕ) : Type 0 where
+-- entry i + 1 of a list, and a boundary that marks its run
+record Marked (w : List ℕ) (rows : List Record) (i : ℕ) : Type 0 where
   row : Record
-  entry : Entry (runsOf w) (suc i) row
+  entry : Entry rows (suc i) row
   starts : 1 ≤ row .first
   boundary : ℕ
   mark : Mark (symbol w) (length w) (row .first - 1) (row .last) (row .period) boundary
 
-module _ (w : List ℕ) where
-  marked : (i : ℕ) → i < length (runsOf w) → Marked w i
-  marked i l = go (entry-exists (runsOf w) i l)
+module _ (w : List ℕ) (rows : List Record) (L : Lists w rows) where
+  marked : (i : ℕ) → i < length rows → Marked w rows i
+  marked i l = go (entry-exists rows i l)
     where
-      go : (r : Record) × Entry (runsOf w) (suc i) r → Marked w i
+      go : (r : Record) × Entry rows (suc i) r → Marked w rows i
       go (r, h) =
-          let R = runs-listed w .sound (suc i) r h in
+          let R = L .sound (suc i) r h in
           let z = mark-exists (symbol w) (length w) (r .first - 1) (r .last) (r .period) (run-in w (r .first) (r .last) (r .period) R) in
           record { row = r; entry = h; starts = R .starts; boundary = z .0; mark = z .1 }
 
-  boundary-inside : {i : ℕ} (M : Marked w i) → (1 ≤ M .boundary) × (M .boundary < length w)
+  boundary-inside : {i : ℕ} (M : Marked w rows i) → (1 ≤ M .boundary) × (M .boundary < length w)
   boundary-inside M = (omega arith, omega arith)
 
-  boundary-unique : (i j : ℕ) (M : Marked w i) (N : Marked w j) → M .boundary ≡ N .boundary → i ≡ j
+  boundary-unique : (i j : ℕ) (M : Marked w rows i) (N : Marked w rows j) → M .boundary ≡ N .boundary → i ≡ j
   boundary-unique i j M N e =
       let u = mark-unique (symbol w) (length w) (M .mark)
       (subst (λ (q : ℕ). Mark (symbol w) (length w) (N .row .first - 1) (N .row .last) (N .row .period) q) (sym e) (N .mark)) in
-      omega (arith, entry-same (runsOf w) (runs-listed w .sorted) (suc i) (suc j) (M .row) (N .row) (M .entry) (N .entry) (omega (arith, u .0)) (u .2))
+      omega (arith, entry-same rows (L .sorted) (suc i) (suc j) (M .row) (N .row) (M .entry) (N .entry) (omega (arith, u .0)) (u .2))
 
-  -- n - 1 boundaries are inside a word of n symbols
-  runs-marked : length (runsOf w) ≤ length w - 1
-  runs-marked = pigeon (length (runsOf w)) (length w - 1) (λ i l. marked i l .boundary - 1) low differ
+  -- n - 1 boundaries are inside a word of n symbols; the empty word needs no case of its own
+  pub runs-at-most : length rows ≤ length w - 1
+  runs-at-most = pigeon (length rows) (length w - 1) (λ i l. marked i l .boundary - 1) low differ
     where
-      low : (i : ℕ) (l : i < length (runsOf w)) → marked i l .boundary - 1 < length w - 1
+      low : (i : ℕ) (l : i < length rows) → marked i l .boundary - 1 < length w - 1
       low i l = omega (arith, boundary-inside (marked i l))
 
-      differ : (i j : ℕ) (l : i < length (runsOf w)) (u : j < length (runsOf w)) → i < j → marked i l .boundary - 1 ≢ marked j u .boundary - 1
+      differ : (i j : ℕ) (l : i < length rows) (u : j < length rows) → i < j → marked i l .boundary - 1 ≢ marked j u .boundary - 1
       differ i j l u x e =
           omega (arith, boundary-unique i j (marked i l) (marked j u) (omega (arith, boundary-inside (marked i l), boundary-inside (marked j u))))
 
--- CLAIM: a word that is not empty has fewer runs than symbols
-pub runs-few : (w : List ℕ) → 1 ≤ length w → length (runsOf w) < length w
-runs-few w h = omega (arith, runs-marked w)
+  -- CLAIM: "a sequence of n ≥ 1 passes has fewer than n runs"
+  pub runs-few : 1 ≤ length w → length rows < length w
+  runs-few h = omega (arith, runs-at-most)
 
--- so that the empty word needs no case of its own
-pub runs-within : (w : List ℕ) → length (runsOf w) ≤ length w
-runs-within w = omega (arith, runs-marked w)
+-- the computed table
+pub table-at-most : (w : List ℕ) → length (runsOf w) ≤ length w - 1
+table-at-most w = runs-at-most w (runsOf w) (runs-listed w)

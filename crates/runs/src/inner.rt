@@ -159,7 +159,7 @@ pub fn rows_at(w: &[u8], a: usize, units: &mut [u32], table: &mut [u32], at: usi
 }
 
 // Writes the records of all runs, as far as the table has places, and gives their count.
-pub(crate) fn enumerate(w: &[u8], units: &mut [u32], table: &mut [u32]) -> usize
+pub fn enumerate(w: &[u8], units: &mut [u32], table: &mut [u32]) -> usize
     requires { ⌜ Scratch (now w) (now units) ⌝ }
     ensures { λ r. ⌜ r ≡ length (runsOf (now (w .entry))) ⌝ }
     ensures { λ _. ⌜ now (table .exit) ≡ sets (now (table .entry)) 0 (flat (runsOf (now (w .entry)))) ⌝ }

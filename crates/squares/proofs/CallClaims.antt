@@ -1,13 +1,15 @@
 -- Best squares says all of demand 3 about splits into squares, and judge squares accepts exactly these: `squares-means`, `squares-judged-means`. Squares are pieces that a
 -- test decides, so what every best split and every judge of one says holds for them (factorizer/proofs); here is refusal 1. Assumes nothing.
 use mathlib.Core.Path.{_≡_, refl, sym, subst}
+use mathlib.Core.Logic.{_≢_}
 use mathlib.Core.List.{List}
-use Prim.Native.Nat.{ℕ, _+_, _*_, _≤_, _<_}
+use Prim.Native.Nat.{ℕ, _+_, _/_, _≤_, _<_}
 use native.Mathlib.Omega.{arith}
 use native.Mathlib.Decide.{decLt}
 use borrow.Author.Tests.{lt-ltb, le-ltb}
 use lib.ListN.{length, take}
 use Rattle.answers.specs.Outcome.{Outcome, refused, limit}
+use Rattle.answers.proofs.Claims.{refused-number}
 use Rattle.periods.specs.Period.{part, Repetition, anyPeriod}
 use Rattle.periods.specs.Square.{Square, square?}
 use Rattle.periods.specs.Edition.{turnsOf}
@@ -16,13 +18,13 @@ use Rattle.periods.proofs.Editions.{turns-of-edition-1}
 use Rattle.periods.proofs.Squares.{square-even, square-repeats}
 use Rattle.factors.specs.Factorization.{Factorization, size, Choice, cell, bestEnds}
 use Rattle.factors.specs.Table.{none, sizeIn}
-use Rattle.factors.proofs.Chains.{chain-map, chain-long}
+use Rattle.factors.proofs.Chains.{chain-map, size-half}
 use Rattle.factors.proofs.Optimal.{Answers}
 use Rattle.factorizer.specs.Piece.{Piece, piece?}
 use Rattle.factorizer.specs.Best.{Reported}
 use Rattle.factorizer.specs.Judge.{pieceVerdict, Judged}
 use Rattle.factorizer.proofs.Rules.{square-decides}
-use Rattle.factorizer.proofs.BestClaims.{piece-answers, prefix-reported, ChosenGiven, chosen-means}
+use Rattle.factorizer.proofs.BestClaims.{piece-answers, prefix-reported, ChosenGiven, chosen-means, chosen-suffice}
 use Rattle.factorizer.proofs.JudgeClaims.{judged-means}
 use Rattle.squares.specs.BestSquares.{squaresOutcome, squaresEnds, squaresWork, SquaresMeaning, too-long, chosen}
 use Rattle.squares.specs.JudgeSquares.{squaresJudgedOutcome, SquaresJudgedMeaning}
@@ -36,14 +38,14 @@ module _ (c : Choice) (w : List ℕ) (m : ℕ) where
   pub squares-reported : m ≤ length w → length w < none → Reported Square c (take m w) (sizeIn (cell c (piece? square? w) m))
   squares-reported = prefix-reported Square square? square-decides c w m
 
--- CLAIM: a split into squares is a split into blocks of edition 1, and has at most half as many squares as symbols
+-- CLAIM: a split into squares is a split into blocks of edition 1, and has at most half as many squares as symbols, rounded down
 pub squares-blocks : (w : List ℕ) (m : ℕ) (es : List ℕ) → Factorization (Piece Square w) m es → Factorization (Piece (Repetition anyPeriod (turnsOf 1)) w) m es
 squares-blocks w m es =
     chain-map (Piece Square w) (Piece (Repetition anyPeriod (turnsOf 1)) w)
     (λ i j K. (K .0, subst (λ (k : ℕ). Repetition anyPeriod k (part w i j)) (sym turns-of-edition-1) (square-repeats (part w i j) (K .1)))) 0 es m
 
-pub squares-half : (w : List ℕ) (m : ℕ) (es : List ℕ) → Factorization (Piece Square w) m es → 2 * size es ≤ m
-squares-half w m es F = omega (arith, chain-long (Piece Square w) 2 long 0 es m F)
+pub squares-half : (w : List ℕ) (m : ℕ) (es : List ℕ) → Factorization (Piece Square w) m es → size es ≤ m / 2
+squares-half w = size-half (Piece Square w) long
   where
     long : (i j : ℕ) → Piece Square w i j → i + 2 ≤ j
     long i j K = omega (arith, placed-part w i j (K .0) .long, square-even (part w i j) (K .1), K .1 .filled)
@@ -83,6 +85,11 @@ module _ (w : List ℕ) (choice : ℕ) (e t : List ℕ) where
   pub squares-answered : (o : Outcome) (x y : List ℕ) → Promised o x y
       → (o ≡ squaresOutcome w choice e t) × ((x ≡ squaresEnds w choice e t) × ((y ≡ squaresWork w choice t) × SquaresMeaning w choice e t o x y))
   squares-answered o x y P = (P .answer, (P .ends, (P .work, rw (P .answer, P .ends, P .work) squares-means)))
+
+  -- CLAIM: n/2 places for the ends suffice: no answer that means what the documents say is 7
+  pub squares-suffice : length w / 2 ≤ length e → (o : Outcome) (x y : List ℕ) → SquaresMeaning w choice e t o x y → (i : ℕ) → o ≢ refused 7 i
+  squares-suffice room o x y (too-long h f a b) i z = omega (arith, refused-number o 1 7 0 i f z)
+  squares-suffice room o x y (chosen h C) i z = chosen-suffice Square w choice e t (squares-half w (length w)) room o x y C i z
 
 -- ---- judge squares
 

@@ -6,15 +6,13 @@ use Prim.Native.Nat.{ℕ, suc, _+_, _-_, _*_, _≤_, _<_}
 use native.Mathlib.Omega.{arith}
 use native.Mathlib.Numerals.{add-one}
 use native.Mathlib.Nat.{add-zero}
-use borrow.Author.Tests.{lt-ltb, le-ltb}
 use lib.ListN.{length, getD, set, take, drop, length-append, drop-of-length-le}
 use lib.Seq.{sets, length-sets, drop-cons, take-at}
-use Rattle.laws.proofs.Stores.{sets-append, sets-front, stored-nowhere}
-use Rattle.answers.specs.Outcome.{accepted, refused}
+use Rattle.laws.proofs.Stores.{sets-append, sets-front}
 use Rattle.decimals.specs.Decimal.{comma, lineEnd, digits}
 use Rattle.decimals.proofs.Claims.{digits-length}
 use Rattle.decimals.proofs.Fields.{fields-long}
-use Rattle.writers.specs.Line.{printedOutcome, printedTable, fieldsOf, line}
+use Rattle.writers.specs.Line.{fieldsOf, line}
 
 -- ---- stored, and left to store
 
@@ -69,26 +67,6 @@ stored-none t a = record { place = sym (add-zero a); bytes = refl }
 
 pub stored-more : {t : List ℕ} {a : ℕ} {xs u : List ℕ} {b : ℕ} {ys v : List ℕ} {c : ℕ} → Stored t a xs u b → Stored u b ys v c → Stored t a (xs ++ ys) v c
 stored-more {t} {a} {xs} {u} {b} {ys} S R = left-last (left-less ys (left-all t a (xs ++ ys) (xs ++ ys) refl) S) R
-
--- ---- counted first in no places, and then written where there is room
-
-module _ (s t e : List ℕ) (size : ℕ) (S : Stored [] 0 s e size) where
-  counted : size ≡ length s
-  counted = omega (arith, S .place)
-
-  as-it-was : e ++ t ≡ t
-  as-it-was = stored-nowhere t e s 0 (S .bytes)
-
-  pub printed-few : length (e ++ t) < size → (refused 7 0 ≡ printedOutcome s (length t)) × (e ++ t ≡ printedTable s t)
-  printed-few h =
-      let k : length t < length s = omega (arith, ap length as-it-was, counted) in
-      rw (lt-ltb (length t) (length s) k) (refl, as-it-was)
-
-  pub printed-all : (u : List ℕ) (b : ℕ) → size ≤ length (e ++ t) → Stored (e ++ t) 0 s u b
-      → (accepted (size ∷ []) ≡ printedOutcome s (length t)) × (u ≡ printedTable s t)
-  printed-all u b h R =
-      let k : length s ≤ length t = omega (arith, ap length as-it-was, counted) in
-      rw (le-ltb (length t) (length s) k) (ap (λ (n : ℕ). accepted (n ∷ [])) counted, R .bytes ∙ ap (λ (l : List ℕ). sets l 0 s) as-it-was ∙ sets-front t s k)
 
 -- ---- bytes
 

@@ -1,6 +1,5 @@
 // For the library's own crates: the caller shows what each function requires. Every writer stores from
-// place at on, as far as there are bytes, and gives the place after what it wrote; so a first pass
-// over no bytes counts, and a second writes.
+// place at on, as far as there are bytes, and gives the place after what it wrote.
 ghost use mathlib.Core.Path.{_≡_};
 ghost use mathlib.Core.List.{_∷_};
 ghost use Prim.Native.Nat.{_≤_, _<_, _+_, _^_};

@@ -12,7 +12,7 @@ use Rattle.periods.specs.Period.{anyPeriod}
 use Rattle.factors.specs.Factorization.{Factorization}
 use Rattle.repetitions.specs.Block.{Block}
 use Rattle.repetitions.specs.Judge.{splitOutcome}
-use Rattle.repetitions.proofs.Blocks.{half, edition-two-turns}
+use Rattle.repetitions.proofs.Blocks.{blocks-half, edition-two-turns}
 use Rattle.repetitions.proofs.JudgeClaims.{accepted-split}
 use Rattle.page_lines.specs.Line.{lineBytes}
 use Rattle.pages.specs.Page.{page}
@@ -67,7 +67,7 @@ cast-t16 : tie.Need-cast-t16
 cast-t16 c =
     let g = c .before .before .before .before .before .before .before .before .before .before .before .before .args in
     let e = ap countedView (sym (c .before .before .before .before .before .before .verdict2 .given .1)) ∙ c .before .before .before .before .before .before .before .before .judge-split .ensures .0 in
-    let few = half anyPeriod 2 (g .w .now) (omega arith) 0 (g .ends .now) (length (g .w .now)) (split (g .w .now) (g .edition) (g .ends .now) _ e) in
+    let few = blocks-half anyPeriod 2 (g .w .now) (omega arith) (length (g .w .now)) (g .ends .now) (split (g .w .now) (g .edition) (g .ends .now) _ e) in
     omega (arith, few, counted (g .w .now) (g .edition) (g .ends .now) _ e, within (g .w .now) (g .edition) (g .ends .now) _ e)
 
 returns-2 : tie.Need-returns-2

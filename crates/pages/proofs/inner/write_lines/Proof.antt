@@ -11,7 +11,7 @@ use Rattle.runs.specs.Number.{runNumber}
 use Rattle.factors.specs.Factorization.{textOfBlocks}
 use Rattle.factors.proofs.BlockByBlock.{Taken, none-taken, next-block, next-in-table, one-more-taken, text-more, text-done}
 use Rattle.repetitions.specs.Block.{Block}
-use Rattle.repetitions.proofs.Blocks.{block-up, half}
+use Rattle.repetitions.proofs.Blocks.{block-up, blocks-half}
 use Rattle.paths.specs.Walk.{Factored}
 use Rattle.paths.proofs.NumberLaws.{units-room, units-stand}
 use Rattle.writers.proofs.Stores.{Left, stored, stored-length, left-all, left-as, left-less, left-none}
@@ -35,7 +35,7 @@ abbrev μ-loop : tie.MeasureT-loop
 
 -- there is a place for each block
 few : (w ends : List ℕ) → Factored w ends → length ends ≤ most-blocks
-few w ends F = omega (arith, F .0, half anyPeriod 2 w (omega arith) 0 ends (length w) (F .1))
+few w ends F = omega (arith, F .0, blocks-half anyPeriod 2 w (omega arith) (length w) ends (F .1))
 
 slice-aggregate-block-units : tie.Need-slice-aggregate-block-units Inv-loop μ-loop
 slice-aggregate-block-units c = refl

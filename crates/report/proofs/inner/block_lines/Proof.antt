@@ -8,11 +8,10 @@ use lib.ListN.{length, getD, drop}
 use Rattle.periods.specs.Period.{anyPeriod}
 use Rattle.factors.proofs.BlockByBlock.{Taken, none-taken, next-block, one-more-taken, text-more, text-done}
 use Rattle.repetitions.specs.Block.{Block}
-use Rattle.repetitions.proofs.Blocks.{block-up}
-use Rattle.report.specs.Text.{printedTurns, blockLine, blockLines}
+use Rattle.repetitions.proofs.Blocks.{block-up, edition-half}
+use Rattle.report.specs.Text.{printedEdition, printedTurns, blockLine, blockLines}
 use Rattle.writers.proofs.Stores.{Left, stored, stored-length, ensured, left-all, left-as, left-less, left-none}
 use Rattle.report.proofs.Lines.{block-lines-long}
-use Rattle.report.proofs.Splits.{split-half}
 use Rattle.report.proofs.inner.block_lines.Statement.{statement}
 use Rattle.report.proofs.inner.block_lines.Tie as tie
 
@@ -41,7 +40,7 @@ block-line-requires c κs =
     let l = c .before .before .before .loop in
     let at = l .inv .3 .place in
     let long = block-lines-long (g .args .w .now) (g .args .ends .now) 0 0 in
-    let few = split-half (g .args .w .now) (g .args .ends .now) (g .pre .0 .2) in
+    let few = edition-half printedEdition (g .args .w .now) (length (g .args .w .now)) (g .args .ends .now) (g .pre .0 .2) in
     ((omega arith, g .pre .0 .1, l .inv .0, next-block (l .inv .2) (omega arith)), g .pre .1)
 
 add-k : tie.Need-add-k Inv-loop μ-loop
