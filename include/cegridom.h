@@ -59,11 +59,16 @@ extern "C" {
 #define CEGRIDOM_UNIT_PLACES(first, last) ((first) > (last) ? 0 : (size_t)(last) - (first) + 1)
 /* The places that a working table needs, for a word of n symbols; of two words, for the longer. */
 #define CEGRIDOM_WORK_PLACES(n) (4 * ((n) + 1))
-/* The most ends that a split of a word of n symbols has in edition 1; in edition 2 and for squares
-   they suffice. */
+/* The most ends that a split of a word of n symbols has, n / 2 rounded down: it is proved that no
+   split, of either edition or into squares, has more. With so many places cegridom_best_split,
+   cegridom_best_squares and, for blocks, cegridom_path_of_split never give 7. */
 #define CEGRIDOM_MOST_ENDS(n) ((n) / 2)
 /* The places that so many runs take: first, last, unit, root of each. */
 #define CEGRIDOM_RUN_PLACES(runs) (4 * (runs))
+/* Places that suffice for the runs of every word of n symbols, 4 x n: it is proved that a word of n
+   symbols, n above 0, has fewer than n runs. With so many places cegridom_runs never gives 7. For
+   n = 0 no place is needed. */
+#define CEGRIDOM_MOST_RUN_PLACES(n) CEGRIDOM_RUN_PLACES(n)
 /* The bytes of a page of so many blocks. */
 #define CEGRIDOM_PAGE_BYTES(k) (61 * (k))
 /* The bytes of a plan line with k ends. */
@@ -182,8 +187,7 @@ uint32_t cegridom_part(const uint8_t *word, size_t n, uint32_t edition, uint32_t
  * symbols, exactly where their units are equal and the unit symbols starting at their roots are the
  * same.
  * Reads word; changes the first 4 x count places of table. Refusals: 1, 7.
- * CEGRIDOM_RUN_PLACES(n) places, 4 x n, suffice, since a word of n symbols, n above 0, has fewer
- * than n runs.
+ * CEGRIDOM_MOST_RUN_PLACES(n) places, 4 x n, suffice for every word: with so many, 7 never comes.
  * Time at most quadratic in n; 17 KiB of stack.
  */
 uint32_t cegridom_runs(const uint8_t *word, size_t n, uint32_t *table, size_t places,
@@ -194,7 +198,7 @@ uint32_t cegridom_runs(const uint8_t *word, size_t n, uint32_t *table, size_t pl
  * and gives their count. A run has one at each position from first + 2 x unit - 1 (in edition 2,
  * first + 3 x unit - 1) to last.
  * Reads word; changes the first count places of table. Refusals: 1, 12, 6, 7.
- * n places suffice, since no word has more runs than symbols.
+ * n places suffice, since a word has fewer runs than symbols: with so many, 7 never comes.
  * Time at most quadratic in n; 81 KiB of stack.
  */
 uint32_t cegridom_nodes(const uint8_t *word, size_t n, uint32_t edition, uint32_t position,
@@ -205,6 +209,7 @@ uint32_t cegridom_nodes(const uint8_t *word, size_t n, uint32_t edition, uint32_
  * blocks of the edition, and gives its size, the number of its blocks. Of the splits of that size
  * it is the one whose last block is longest, then the one before it, and so on.
  * Reads word; changes the first size places of ends. Refusals: 1, 12, 8, 9, 2, 7.
+ * CEGRIDOM_MOST_ENDS(n) places of ends suffice: with so many, 7 never comes.
  * The working table afterwards holds in its first n + 1 places the best size of each prefix length
  * 0 to n, CEGRIDOM_NONE where the prefix has no split, and 0 in the following 3 x (n+1); after an
  * answer and after refusals 2 and 7 alike. After 1, 12, 8 and 9 it keeps its contents. Places past
@@ -221,6 +226,7 @@ uint32_t cegridom_best_split(const uint8_t *word, size_t n, uint32_t edition, ui
  * be primitive: aaaa is one. Of the splits of that size it is the one whose last square is longest,
  * then the one before it, and so on. A word of odd length has none.
  * Reads word; changes the first size places of ends. Refusals: 1, 8, 9, 2, 7.
+ * CEGRIDOM_MOST_ENDS(n) places of ends suffice: with so many, 7 never comes.
  * The working table afterwards holds in its first n + 1 places the best size of each prefix length
  * 0 to n, CEGRIDOM_NONE where the prefix has no split into squares, and 0 in the following
  * 3 x (n+1); after an answer and after refusals 2 and 7 alike. After 1, 8 and 9 it keeps its
@@ -280,6 +286,7 @@ uint32_t cegridom_judge_squares(const uint8_t *word, size_t n, const uint32_t *e
  * It is that of the one run that encloses the block and has its unit.
  * Reads word and ends; changes the first blocks places of table.
  * Refusals: 1; 12; then for each end in turn 3, 4; then 5; then 7.
+ * CEGRIDOM_MOST_ENDS(n) places suffice: with so many, 7 never comes.
  * Time at most quadratic in n; 97 KiB of stack.
  */
 uint32_t cegridom_path_of_split(const uint8_t *word, size_t n, uint32_t edition,

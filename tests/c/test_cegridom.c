@@ -28,9 +28,10 @@ static uint32_t index_, a, b, c, d;
 
 static void reset(void) { index_ = a = b = c = d = GUARD; }
 
-static uint32_t table[CEGRIDOM_RUN_PLACES(CEGRIDOM_LIMIT) + 1];
+static uint32_t table[CEGRIDOM_MOST_RUN_PLACES(CEGRIDOM_LIMIT) + 2];
 static uint32_t work[CEGRIDOM_WORK_PLACES(CEGRIDOM_LIMIT + 1) + 2];
 static uint8_t longest[CEGRIDOM_LIMIT + 1];
+static uint8_t rich[CEGRIDOM_LIMIT];
 static uint8_t out[CEGRIDOM_PLAN_BYTES(CEGRIDOM_LIMIT) + 1];
 static uint8_t page[CEGRIDOM_PAGE_BYTES(CEGRIDOM_MOST_ENDS(CEGRIDOM_LIMIT)) + 9];
 
@@ -319,7 +320,7 @@ static const struct runs_case runs_cases[] = {
 
 static void test_runs(void) {
     CHECK(CEGRIDOM_RUN_PLACES(0) == 0 && CEGRIDOM_RUN_PLACES(1) == 4);
-    CHECK(2 * CEGRIDOM_RUN_PLACES(1 | 2) == 24);
+    CHECK(2 * CEGRIDOM_RUN_PLACES(1 + 2) == 24 && 24 / CEGRIDOM_RUN_PLACES(2) == 3);
     for (size_t i = 0; i < sizeof runs_cases / sizeof *runs_cases; i++) {
         const struct runs_case *k = &runs_cases[i];
         listed(k->word, k->n, k->rows, k->count);
@@ -1351,7 +1352,7 @@ static void paged(const uint8_t *word, size_t n, uint32_t edition, const uint32_
 
 static void test_write_page(void) {
     CHECK(CEGRIDOM_PAGE_BYTES(0) == 0 && CEGRIDOM_PAGE_BYTES(1) == 61);
-    CHECK(2 * CEGRIDOM_PAGE_BYTES(1 | 2) == 366);
+    CHECK(2 * CEGRIDOM_PAGE_BYTES(1 + 2) == 366);
     PAGED(WORD("aabaabaa"), 1,
           "     1     1     2     1     2     0     161                \n"
           "     2     3     8     3     2     0     2626161            \n",
@@ -1476,6 +1477,128 @@ static void test_longest_page(void) {
     }
 }
 
+/* The nodes at a position in n places: as many as the rows of the runs say. */
+static void nodes_suffice(const uint8_t *word, size_t n, uint32_t edition, uint32_t position,
+                          const uint32_t *rows, uint32_t count) {
+    uint32_t white = 0;
+    for (uint32_t i = 0; i < count; i++) {
+        const uint32_t *row = rows + CEGRIDOM_RUN_PLACES(i);
+        white += row[0] + (edition + 1) * row[2] - 1 <= position && position <= row[1];
+    }
+    fill(table, n + 1);
+    reset();
+    CHECK(cegridom_nodes(word, n, edition, position, table, n, &a, &index_) == CEGRIDOM_ACCEPTED);
+    CHECK(a == white && index_ == 0 && untouched(table + white, n + 1 - white));
+}
+
+/* The runs in 4 x n places, none for n = 0, and then the nodes. Gives the count of runs. */
+static uint32_t runs_suffice(const uint8_t *word, size_t n) {
+    static uint32_t rows[CEGRIDOM_MOST_RUN_PLACES(CEGRIDOM_LIMIT)];
+    fill(table, TABLE_PLACES);
+    reset();
+    CHECK(cegridom_runs(word, n, n > 0 ? records : NULL, CEGRIDOM_MOST_RUN_PLACES(n), &a,
+                        &index_) == CEGRIDOM_ACCEPTED);
+    CHECK((n == 0 ? a == 0 : a < n) && index_ == 0);
+    uint32_t count = a < n ? a : 0;
+    memcpy(rows, records, CEGRIDOM_RUN_PLACES(count) * sizeof *rows);
+    for (uint32_t edition = 1; edition <= 2; edition++) {
+        for (size_t before = 0; before < n; before += n < 200 ? 1 : n / 3) {
+            nodes_suffice(word, n, edition, (uint32_t)(n - before), rows, count);
+        }
+    }
+    return count;
+}
+
+/* The best splits of both editions and into squares (told as edition 0), and their paths, in n/2
+   places. */
+static void ends_suffice(const uint8_t *word, size_t n) {
+    static uint32_t ends[CEGRIDOM_MOST_ENDS(CEGRIDOM_LIMIT) + 1];
+    size_t most = CEGRIDOM_MOST_ENDS(n);
+    for (uint32_t choice = 1; choice <= 2; choice++) {
+        for (uint32_t edition = 0; edition <= 2; edition++) {
+            fill(ends, most + 1);
+            reset();
+            uint32_t result = edition == 0 ? cegridom_best_squares(word, n, choice, ends, most,
+                                                                   work, WORK, &a, &index_)
+                                           : cegridom_best_split(word, n, edition, choice, ends,
+                                                                 most, work, WORK, &a, &index_);
+            uint32_t size = work[n] == CEGRIDOM_NONE ? 0 : work[n];
+            CHECK(result == (work[n] == CEGRIDOM_NONE ? CEGRIDOM_NO_SPLIT : CEGRIDOM_ACCEPTED));
+            CHECK(a == size && index_ == 0 && size <= most && ends[most] == GUARD);
+            if (result == CEGRIDOM_ACCEPTED) {
+                /* a square is a block of edition 1 */
+                fill(table, most + 1);
+                reset();
+                CHECK(cegridom_path_of_split(word, n, edition == 2 ? 2 : 1, ends, size, table, most,
+                                             &a, &index_) == CEGRIDOM_ACCEPTED);
+                CHECK(a == size && index_ == 0 && untouched(table + size, most + 1 - size));
+            }
+        }
+    }
+}
+
+/* The sizes that suffice for every word of n symbols: 7 never comes. Gives the count of runs. */
+static uint32_t suffice(const uint8_t *word, size_t n) {
+    ends_suffice(word, n);
+    return runs_suffice(word, n);
+}
+
+/* A series of words with many runs for their length: each begins with the one before it and goes on
+   with an earlier one, so that the longest begins again with its first symbols at each of these
+   places. */
+static void fill_rich(void) {
+    static const size_t places[] = {3,   5,   11,  13,  24,  37,   56,   69,   125,
+                                    162, 218, 380, 505, 667, 1172, 1552, 2057, 3609};
+    memcpy(rich, "abb", 3);
+    for (size_t k = 0; k < sizeof places / sizeof *places; k++) {
+        for (size_t i = places[k]; i < sizeof rich; i++) {
+            rich[i] = rich[i - places[k]];
+        }
+    }
+}
+
+/* Words with many runs for their length, and how many. */
+struct rich_case {
+    const uint8_t *word;
+    size_t n;
+    uint32_t runs;
+};
+
+static const struct rich_case rich_cases[] = {
+    /* n - 1, which is the most */
+    {WORD("aa"), 1},
+    /* the most that 14 symbols of two kinds have */
+    {WORD("aabaabbaabaabb"), 10},
+    {rich, 37, 28},
+    {rich, 56, 47},
+    {rich, 125, 110},
+    {rich, 505, 467},
+    {rich, 1024, 951},
+    {rich, CEGRIDOM_LIMIT, 3851},
+};
+
+static void test_sizes(void) {
+    CHECK(CEGRIDOM_MOST_RUN_PLACES(0) == 0 && CEGRIDOM_MOST_RUN_PLACES(1) == 4);
+    CHECK(2 * CEGRIDOM_MOST_RUN_PLACES(1 + 2) == 24 && 24 / CEGRIDOM_MOST_RUN_PLACES(2) == 3);
+    CHECK(CEGRIDOM_MOST_ENDS(0) == 0 && CEGRIDOM_MOST_ENDS(1) == 0 && CEGRIDOM_MOST_ENDS(2) == 1);
+    CHECK(2 * CEGRIDOM_MOST_ENDS(1 | 4) == 4);
+    for (size_t i = 0; i < sizeof rich_cases / sizeof *rich_cases; i++) {
+        CHECK(suffice(rich_cases[i].word, rich_cases[i].n) == rich_cases[i].runs);
+    }
+    for (size_t i = 0; i < sizeof runs_cases / sizeof *runs_cases; i++) {
+        CHECK(suffice(runs_cases[i].word, runs_cases[i].n) == runs_cases[i].count);
+    }
+    for (size_t i = 0; i < sizeof best_cases / sizeof *best_cases; i++) {
+        suffice((const uint8_t *)best_cases[i].word, strlen(best_cases[i].word));
+    }
+    for (size_t i = 0; i < sizeof squares_cases / sizeof *squares_cases; i++) {
+        suffice((const uint8_t *)squares_cases[i].word, strlen(squares_cases[i].word));
+    }
+    for (size_t n = CEGRIDOM_LIMIT - 1; n <= CEGRIDOM_LIMIT; n++) {
+        CHECK(suffice(longest, n) == 1);
+    }
+}
+
 static void test_write_plan(void) {
     memset(out, '.', sizeof out);
     reset();
@@ -1564,6 +1687,7 @@ static void test_read_plan(void) {
 
 int main(void) {
     memset(longest, 'a', sizeof longest);
+    fill_rich();
     test_version();
     test_message();
     test_unit_places();
@@ -1583,6 +1707,7 @@ int main(void) {
     test_judge_path();
     test_write_page();
     test_longest_page();
+    test_sizes();
     test_write_plan();
     test_read_plan();
     if (failed > 0) {
