@@ -196,7 +196,8 @@ pub fn part_into(
 /// Writes the runs of a word, by first and then by unit, and gives how many there are. The run at
 /// place `i` of the table has the number `i + 1`.
 ///
-/// Refusals: 1, 7. Time at most quadratic in the length; 17 KiB of stack.
+/// Refusals: 1, 7. A table of [`most_runs`](crate::most_runs) runs never gets 7. Time at most
+/// quadratic in the length; 17 KiB of stack.
 ///
 /// ```
 /// use cegridom::{runs_into, Run};
@@ -218,7 +219,8 @@ pub fn runs_into(word: &[u8], table: &mut [Run]) -> Result<usize, Refusal> {
 /// there are. A run has one at each position from `first + 2 * unit - 1` to `last`; in edition 2,
 /// from `first + 3 * unit - 1`.
 ///
-/// Refusals: 1, 6, 7. Time at most quadratic in the length; 81 KiB of stack.
+/// Refusals: 1, 6, 7. A table of [`most_runs`](crate::most_runs) numbers never gets 7. Time at most
+/// quadratic in the length; 81 KiB of stack.
 ///
 /// ```
 /// use cegridom::{nodes_into, Edition};
@@ -247,8 +249,8 @@ pub fn nodes_into(
 /// of its blocks. Of the splits of that size it is the one whose last block is longest, then the
 /// one before it, and so on.
 ///
-/// Refusals: 1, 9, 2, 7. Time at most quadratic in the length; 48 bytes of stack a block of the
-/// split, 97 KiB at most.
+/// Refusals: 1, 9, 2, 7. [`most_ends`](crate::most_ends) places for the ends never get 7. Time at
+/// most quadratic in the length; 48 bytes of stack a block of the split, 97 KiB at most.
 ///
 /// The working table needs [`work_places`](crate::work_places) places, and those past them never
 /// change. After an answer, and after 2 and 7 too, its first `n + 1` places hold the best size of
@@ -301,8 +303,8 @@ pub fn best_split_into(
 /// splits of that size it is the one whose last square is longest, then the one before it, and so
 /// on. A word of odd length has none.
 ///
-/// Refusals: 1, 9, 2, 7. Time at most quadratic in the length; 48 bytes of stack a square of the
-/// split, 97 KiB at most.
+/// Refusals: 1, 9, 2, 7. [`most_ends`](crate::most_ends) places for the ends never get 7. Time at
+/// most quadratic in the length; 48 bytes of stack a square of the split, 97 KiB at most.
 ///
 /// The working table needs [`work_places`](crate::work_places) places, and those past them never
 /// change. After an answer, and after 2 and 7 too, its first `n + 1` places hold the best size of
@@ -504,8 +506,9 @@ pub fn judge_squares(word: &[u8], ends: &[u32]) -> Result<usize, Refusal> {
 /// Writes the run number of each block of a split, and gives how many there are. It is that of the
 /// one run that encloses the block and has its unit.
 ///
-/// Refusals: 1; then for each end in turn 3, 4; then 5; then 7. Time at most quadratic in the
-/// length; 97 KiB of stack.
+/// Refusals: 1; then for each end in turn 3, 4; then 5; then 7. A table of
+/// [`most_ends`](crate::most_ends) numbers never gets 7. Time at most quadratic in the length; 97
+/// KiB of stack.
 ///
 /// ```
 /// use cegridom::{path_of_split_into, Edition};

@@ -40,6 +40,9 @@
 //! their tables; they come with the feature `alloc`, which is on by default. Without it the crate
 //! needs `core` alone. The archive needs the C library's `memset` and `memcpy` and nothing else.
 //!
+//! How large a lent table must be is known before a call: [`most_runs`], [`most_ends`],
+//! [`work_places`], [`page_bytes`] and [`plan_bytes`] give sizes that suffice.
+//!
 //! No call keeps state, so any number of threads may call at once. What the archive takes of the
 //! stack is said in the text of each function, 113 KiB at most; where nothing is said, it is under
 //! 400 bytes.
@@ -94,8 +97,27 @@ pub const fn work_places(n: usize) -> usize {
     n.saturating_add(1).saturating_mul(4)
 }
 
-/// The most ends that a split of a word of `n` symbols has in edition 1; in edition 2 and for squares
-/// they suffice.
+/// Runs that suffice for every word of `n` symbols: `n - 1`, and none for the empty word. It is
+/// proved that a word has fewer runs than symbols and the empty word none. So many runs in the table
+/// lent to [`runs_into`], and so many numbers in that of [`nodes_into`], never get refusal 7.
+///
+/// ```
+/// use cegridom::{most_runs, runs_into, Run};
+///
+/// assert_eq!((most_runs(0), most_runs(1), most_runs(8)), (0, 0, 7));
+///
+/// let mut table = [Run::default(); most_runs(2)];
+/// assert_eq!(runs_into(b"aa", &mut table), Ok(1));
+/// assert_eq!(runs_into(b"ab", &mut table), Ok(0));
+/// ```
+pub const fn most_runs(n: usize) -> usize {
+    n.saturating_sub(1)
+}
+
+/// The most ends that a split of a word of `n` symbols has: half of `n`, rounded down. It is proved
+/// that no split, of either edition or into squares, has more. So many places for the ends in
+/// [`best_split_into`] and [`best_squares_into`], and in the table of [`path_of_split_into`], never
+/// get refusal 7.
 ///
 /// ```
 /// assert_eq!(cegridom::most_ends(5), 2);

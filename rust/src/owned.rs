@@ -1,10 +1,10 @@
 //! The calls that allocate their tables.
 
 use crate::{
-    best_split_into, best_squares_into, first_block_into, most_ends, nodes_into, page_bytes,
-    part_into, path_of_split_into, plan_bytes, read_plan_into, runs_into, which_first_into,
-    work_places, write_page_into, write_plan_into, Choice, Edition, Part, Refusal, Run, Which,
-    LIMIT, NONE,
+    best_split_into, best_squares_into, first_block_into, most_ends, most_runs, nodes_into,
+    page_bytes, part_into, path_of_split_into, plan_bytes, read_plan_into, runs_into,
+    which_first_into, work_places, write_page_into, write_plan_into, Choice, Edition, Part,
+    Refusal, Run, Which, LIMIT, NONE,
 };
 use alloc::vec;
 use alloc::vec::Vec;
@@ -123,7 +123,7 @@ pub fn units(word: &[u8], first: u32, last: u32) -> Result<Vec<u32>, Refusal> {
 
 /// The runs of a word, by first and then by unit; run number `i` is at place `i - 1`.
 ///
-/// Refusal: 1. Allocates a run for each symbol while it works; 17 KiB of stack.
+/// Refusal: 1. Allocates [`most_runs`] runs while it works; 17 KiB of stack.
 ///
 /// ```
 /// let runs = cegridom::runs(b"aabaabaa").unwrap();
@@ -138,8 +138,8 @@ pub fn units(word: &[u8], first: u32, last: u32) -> Result<Vec<u32>, Refusal> {
 /// assert_eq!((runs[3].first, runs[3].root, unit(3)), (5, 6, &b"ab"[..]));
 /// ```
 pub fn runs(word: &[u8]) -> Result<Vec<Run>, Refusal> {
-    // A word has fewer runs than symbols (Bannai et al., The "Runs" Theorem).
-    let mut table = vec![Run::default(); allowed(word.len())];
+    // Enough: the library proves that a word has fewer runs than symbols.
+    let mut table = vec![Run::default(); most_runs(allowed(word.len()))];
     let count = runs_into(word, &mut table)?;
     Ok(front(table, count))
 }
@@ -147,7 +147,7 @@ pub fn runs(word: &[u8]) -> Result<Vec<Run>, Refusal> {
 /// The numbers of the runs that have a white node at a position, rising: those that reach it and
 /// have two whole turns (in edition 2, three) up to it.
 ///
-/// Refusals: 1, 6. Allocates a number for each symbol while it works; 81 KiB of stack.
+/// Refusals: 1, 6. Allocates [`most_runs`] numbers while it works; 81 KiB of stack.
 ///
 /// ```
 /// use cegridom::{nodes, Edition, Refusal};
@@ -157,7 +157,7 @@ pub fn runs(word: &[u8]) -> Result<Vec<Run>, Refusal> {
 /// assert_eq!(nodes(b"aabaabaa", Edition::One, 0), Err(Refusal::BadPosition));
 /// ```
 pub fn nodes(word: &[u8], edition: Edition, position: u32) -> Result<Vec<u32>, Refusal> {
-    let mut table = vec![0; allowed(word.len())];
+    let mut table = vec![0; most_runs(allowed(word.len()))];
     let count = nodes_into(word, edition, position, &mut table)?;
     Ok(front(table, count))
 }

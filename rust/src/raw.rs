@@ -68,8 +68,8 @@ extern "C" {
         index: *mut u32,
     ) -> u32;
 
-    /// Behind [`runs_into`](crate::runs_into). A run takes [`RUN_PLACES`] places of the table.
-    /// Refusals: 1, 7.
+    /// Behind [`runs_into`](crate::runs_into). A run takes [`RUN_PLACES`] places of the table, and
+    /// `n` times so many never get 7. Refusals: 1, 7.
     pub fn cegridom_runs(
         word: *const u8,
         n: usize,

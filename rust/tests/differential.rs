@@ -2191,6 +2191,65 @@ impl Wrappers {
         }
     }
 
+    /// Runs, and nodes at some positions, in tables for the most runs: no table is too short.
+    fn most_runs(&mut self, known: &Known, positions: &[u32]) {
+        let (w, most) = (known.word, cegridom::most_runs(known.word.len()));
+        let mut lent = vec![cegridom::Run::default(); most];
+        let (outcome, flat) = reference::runs_call(w, &known.runs, MANY);
+        self.agree(cegridom::runs_into(w, &mut lent), said(outcome, only));
+        assert_eq!(lent, table(&as_runs(&flat), most, Default::default()));
+        for edition in [Edition::One, Edition::Two] {
+            for &position in positions {
+                let number = edition.number();
+                let (outcome, numbers) =
+                    reference::nodes_call(w, number, &known.runs, position, MANY);
+                let mut lent = vec![GUARD; most];
+                let got = cegridom::nodes_into(w, edition, position, &mut lent);
+                self.agree(got, said(outcome, only));
+                assert_eq!(lent, table(&numbers, most, GUARD));
+            }
+        }
+    }
+
+    /// The best splits and their paths, in tables for the most ends: no table is too short.
+    fn most_ends(&mut self, known: &Known, squared: &Squared) {
+        let (w, n) = (known.word, known.word.len());
+        let most = cegridom::most_ends(n);
+        let (mut ends, mut work) = (vec![GUARD; most], vec![GUARD; cegridom::work_places(n)]);
+        for choice in [Choice::Fewest, Choice::Most] {
+            let c = choice.number();
+            for edition in [Edition::One, Edition::Two] {
+                let e = edition.number();
+                let (outcome, front, _) =
+                    reference::best_call(w, e, c, known.best(e, c), MANY, MANY);
+                let got = cegridom::best_split_into(w, edition, choice, &mut ends, &mut work);
+                self.agree(got, said(outcome, only));
+                assert_eq!(ends[..front.len()], front);
+                if got.is_ok() {
+                    self.most_blocks(w, edition, &front);
+                }
+            }
+            let (outcome, front, _) =
+                reference::best_squares_call(w, c, squared.best(c), MANY, MANY);
+            let got = cegridom::best_squares_into(w, choice, &mut ends, &mut work);
+            self.agree(got, said(outcome, only));
+            assert_eq!(ends[..front.len()], front);
+            if got.is_ok() {
+                // A square is a block of edition 1.
+                self.most_blocks(w, Edition::One, &front);
+            }
+        }
+    }
+
+    /// A split has no more ends than the most, and its path no more numbers.
+    fn most_blocks(&mut self, w: &[u8], edition: Edition, ends: &[u32]) {
+        let most = cegridom::most_ends(w.len());
+        assert!(ends.len() <= most, "{w:?} {ends:?}");
+        let mut lent = vec![GUARD; most];
+        let got = cegridom::path_of_split_into(w, edition, ends, &mut lent);
+        self.agree(got, Ok(ends.len()));
+    }
+
     fn judges(&mut self, known: &Known, edition: Edition, ends: &[u32], numbers: &[u32]) {
         let (w, number) = (known.word, edition.number());
         let outcome = reference::judge_split_call(w, number, ends);
@@ -2329,4 +2388,82 @@ fn wrappers_on_two_words() {
         }
     }
     println!("the wrappers on two words: {} comparisons", wrappers.made);
+}
+
+/// A word with many runs for its length: of a series in which each begins with the one before it
+/// and goes on with an earlier one, by a recurrence like that of the Fibonacci words.
+fn run_rich(n: usize) -> Vec<u8> {
+    let mut lengths = vec![19, 13, 24];
+    let mut word = b"abbababbabaababbababbaba".to_vec();
+    while word.len() < n {
+        let k = lengths.len();
+        let earlier = lengths[if k % 3 == 0 { k - 2 } else { k - 4 }];
+        word.extend_from_within(..earlier);
+        lengths.push(word.len());
+    }
+    word.truncate(n);
+    word
+}
+
+/// Words with many runs for their length, and how many: one that has n - 1, the most that any may
+/// have; one of 14 symbols, than which none over two symbols has more; and words of a series.
+fn rich_in_runs() -> Vec<(Vec<u8>, usize)> {
+    let mut words = vec![(b"aa".to_vec(), 1), (b"aabaabbaabaabb".to_vec(), 10)];
+    let series = [
+        (37, 28),
+        (56, 47),
+        (125, 110),
+        (505, 467),
+        (1024, 951),
+        (LIMIT, 3851),
+    ];
+    words.extend(series.map(|(n, runs)| (run_rich(n), runs)));
+    words
+}
+
+/// In tables of the sizes that are said to suffice, no call gives 7: a word has fewer runs than
+/// symbols, and a split at most half as many blocks.
+#[test]
+fn sizes_that_suffice() {
+    let mut checker = Checker::default();
+    let mut wrappers = Wrappers::default();
+    let mut look = |w: &[u8]| {
+        let (n, known, squared) = (w.len(), Known::of(w), Squared::of(w));
+        assert!(n == 0 || known.runs.len() < n, "{w:?}");
+        checker.runs(&known, RUN_PLACES * n);
+        let apart = if n < LONG { 1 } else { n / 3 };
+        let positions: Vec<u32> = (1..=n as u32).rev().step_by(apart).collect();
+        for edition in EDITIONS {
+            for &position in &positions {
+                checker.nodes(&known, edition, position, n);
+            }
+        }
+        wrappers.most_runs(&known, &positions);
+        wrappers.most_ends(&known, &squared);
+    };
+    for (w, runs) in rich_in_runs() {
+        assert_eq!(reference::runs(&w).len(), runs);
+        look(&w);
+    }
+    every_word(2, 12, &mut look);
+    every_word(3, 8, &mut look);
+    for w in [LIMIT, LIMIT - 1].map(|n| vec![b'a'; n]) {
+        look(&w);
+    }
+    let mut every_split = |w: &[u8]| {
+        for edition in [Edition::One, Edition::Two] {
+            let turns = reference::turns(edition.number()).unwrap();
+            for ends in reference::plain_splits(w, turns) {
+                wrappers.most_blocks(w, edition, &ends);
+            }
+        }
+        for ends in reference::plain_squares(w) {
+            wrappers.most_blocks(w, Edition::One, &ends);
+        }
+    };
+    every_word(2, 12, &mut every_split);
+    every_word(3, 8, &mut every_split);
+    assert_eq!(checker.met[7], 0);
+    let made = checker.made + wrappers.made;
+    println!("sizes that suffice: {made} comparisons");
 }

@@ -1,7 +1,7 @@
 //! What the types of the crate promise: refusals and their numbers, lengths that do not fit, runs with
 //! their roots, the squares of the documents, a page byte for byte, the first block as a part of the
-//! caller's bytes, what the units of a part, runs, squares, a page and the calls on two words take of
-//! memory, and the example `fewest`.
+//! caller's bytes, what the units of a part, runs, nodes, squares, a page and the calls on two words
+//! take of memory, and the example `fewest`.
 
 use cegridom::{raw, Choice, Edition, Refusal, Run, Which, LIMIT};
 use std::alloc::{GlobalAlloc, Layout, System};
@@ -101,6 +101,8 @@ fn sizes_do_not_overflow() {
     assert_eq!(cegridom::page_bytes(usize::MAX), usize::MAX);
     assert_eq!(cegridom::plan_bytes(usize::MAX), usize::MAX);
     assert_eq!(cegridom::most_ends(usize::MAX), usize::MAX / 2);
+    assert_eq!([0, 1, 2, 8].map(cegridom::most_runs), [0, 0, 1, 7]);
+    assert_eq!(cegridom::most_runs(usize::MAX), usize::MAX - 1);
 }
 
 #[test]
@@ -329,20 +331,27 @@ fn a_refused_part_allocates_no_more_than_the_word() {
 }
 
 #[test]
-fn runs_allocate_a_run_a_symbol() {
+fn runs_and_nodes_allocate_for_the_most_runs() {
     let longest = [b'a'; LIMIT];
-    for word in [&b"aabaabaa"[..], b"ab", b"", &longest] {
-        let places = raw::RUN_PLACES * word.len();
+    for word in [&b"aabaabaa"[..], b"aa", b"ab", b"a", b"", &longest] {
+        let most = cegridom::most_runs(word.len());
+        let places = raw::RUN_PLACES * most;
         let (numbers, runs) = numbers_allocated(|| cegridom::runs(word));
         // The answer may be moved to a table of its own size.
         let answer = raw::RUN_PLACES * runs.unwrap().len();
         assert!((places..=places + answer).contains(&numbers), "{numbers}");
+        let last = word.len() as u32;
+        let (numbers, nodes) = numbers_allocated(|| cegridom::nodes(word, Edition::One, last));
+        let answer = nodes.map_or(0, |nodes| nodes.len());
+        assert!((most..=most + answer).contains(&numbers), "{numbers}");
     }
     let mut table = [Run::default(); 4];
     let said = numbers_allocated(|| cegridom::runs_into(b"aabaabaa", &mut table));
     assert_eq!(said, (0, Ok(4)));
     // Nothing, where the word is too long.
     let said = numbers_allocated(|| cegridom::runs(&[b'a'; LIMIT + 1]));
+    assert_eq!(said, (0, Err(Refusal::TooLong)));
+    let said = numbers_allocated(|| cegridom::nodes(&[b'a'; LIMIT + 1], Edition::One, 1));
     assert_eq!(said, (0, Err(Refusal::TooLong)));
 }
 
