@@ -1,13 +1,14 @@
 #!/usr/bin/env python3
 """The expected output of the program vectors: runs, nodes, best splits, the judges and paths, in both
-editions, every refusal of these calls, and generated words, with the lent tables afterwards. To make
-it again:
+editions, words with many runs, every refusal of these calls, and generated words, with the lent tables
+afterwards. To make it again:
 
     tests/vectors/calls.py > crates/vectors/stdout
 
 The rows of 4,096 equal passes come out of the definitions like the others, in some fifteen seconds.
 """
 from definitions import FEWEST, MOST, best_split, judge_path, judge_split, nodes, path_of_split, runs
+from definitions import runs_by_unit, runs_of
 
 W8 = b"aabaabaa"
 W17 = b"aabaabaacbbcbbcbb"
@@ -51,6 +52,24 @@ SYMBOLS = [  # name, word; with five places lent
     ("127 128 twice", [127, 128] * 2),
     ("200 100 twice and 200", [200, 100] * 2 + [200]),
     ("128 255 128 127 twice", [128, 255, 128, 127] * 2),
+]
+
+
+def series(n):
+    """The first n passes of the words of a series with many runs for their length: each begins with the
+    one before it and goes on with an earlier one."""
+    words = [b"abbababbabaababbaba", b"abbababbabaab", b"abbababbabaababbababbaba"]
+    while len(words[-1]) < n:
+        k = len(words)
+        words.append(words[-1] + words[k - 2 if k % 3 == 0 else k - 4])
+    return words[-1][:n]
+
+
+RICH = [  # name, word with many runs for its length n; with 4 × n places lent
+    (b"aa", b"aa"),
+    (b"aabaabbaabaabb", b"aabaabbaabaabb"),
+    (series(125), series(125)),
+    ("4096 rich in runs", series(4096)),
 ]
 
 NODES = [  # word, edition, position, places lent
@@ -304,6 +323,12 @@ def show_calls():
     for name, word in SYMBOLS:
         outcome, table = runs(bytes(word), lent(5))
         print(fields("runs", name, outcome) + listed(table))
+    for name, word in RICH:
+        places = 4 * len(word)
+        find = runs_of if places <= 500 else runs_by_unit
+        outcome, table = runs(word, lent(places), find)
+        shown = listed(table) if places <= 64 else ""
+        print(fields("runs", name, len(word), places, outcome) + shown)
     for word, edition, position, places in NODES:
         outcome, table = nodes(word, edition, position, lent(places))
         print(fields("nodes", word, edition, position, places, outcome) + listed(table))

@@ -1,5 +1,5 @@
 #!/usr/bin/env python3
-"""The definitions and calls of document 01 and of document 02's items 1 to 4, 6 and 7, as plainly as
+"""The definitions and calls of document 01 and of document 02's items 1 to 4 and 6 to 8, as plainly as
 the documents state them, for the expected outputs of the test programs. Nothing is taken from the
 library or from its runs.
 
@@ -106,6 +106,21 @@ def runs_of(word):
     return sorted(found, key=lambda run: (run[0], run[2]))
 
 
+def runs_by_unit(word):
+    """The same, quickly, of a long word. Between two passes that differ from those p further on, or up
+    to the word's ends, is the longest part in which no pair p apart differs: it cannot be lengthened,
+    and is a run if it has two turns and p is its unit."""
+    n = len(word)
+    found = []
+    for p in range(1, n // 2 + 1):
+        differ = [i for i, (left, right) in enumerate(zip(word, word[p:])) if left != right]
+        for before, after in zip([-1] + differ, differ + [n - p]):
+            part = word[before + 1 : after + p]
+            if len(part) >= TURNS[1] * p and unit(part) == p:
+                found.append((before + 2, after + p, p, root(word, before + 2, p)))
+    return sorted(found, key=lambda run: (run[0], run[2]))
+
+
 def nodes_at(word, k, position):
     """The numbers of the runs with a white node at a position, rising."""
     return [
@@ -188,14 +203,15 @@ def part(word, edition, first, last, table):
     return outcome, written(units, table)
 
 
-def runs(word, table):
+def runs(word, table, find=runs_of):
     """Runs: 1, 7. Four numbers a run."""
     if len(word) > LIMIT:
         return refused(1), table
-    numbers = [number for run in runs_of(word) for number in run]
+    found = find(word)
+    numbers = [number for run in found for number in run]
     if len(table) < len(numbers):
         return refused(7), table
-    return accepted(len(runs_of(word))), written(numbers, table)
+    return accepted(len(found)), written(numbers, table)
 
 
 def nodes(word, edition, position, table):
@@ -603,6 +619,7 @@ def compare_with_enumeration(word, edition):
         _, numbers = path_of_split(word, edition, path[1::2], [0] * (len(path) // 2))
         expect(numbers == path[0::2], "path of", word, edition, path[1::2])
     for ends in splits:
+        expect(len(ends) <= n // 2, "blocks of", word, edition, ends)
         # every split has a page, and no line another width
         outcome, out = write_page(word, edition, ends, [7] * (61 * len(ends) + 1))
         expect(outcome == accepted(61 * len(ends)) and out.pop() == 7, "page of", word, edition, ends)
@@ -645,6 +662,7 @@ def compare_squares_with_enumeration(word):
             given = refused(7), [7] * (size - 1), table
             expect(best_squares(word, choice, given[1], lent) == given, "few places", word, choice)
     for ends in squares_of(word):
+        expect(len(ends) <= n // 2, "squares of", word, ends)
         if len(ends) == size:
             halves = [word[a : (a + b) // 2] for a, b in zip([0] + ends, ends)]
             expect(all(map(is_primitive, halves)), "most squares of", word, ends)
@@ -671,14 +689,17 @@ def compare_squares_with_examples():
 
 
 def compare_runs(word):
-    """The call with just the places that the runs need, with one more and with one fewer; and the roots
-    with the rotations of the units, as Python orders them."""
+    """The call with just the places that the runs need, with one more and with one fewer, and with those
+    that always suffice; and the roots with the rotations of the units, as Python orders them."""
     found = runs_of(word)
+    expect(runs_by_unit(word) == found, "runs by unit of", word)
+    expect(len(found) < len(word) or word == b"", "count of the runs of", word)
     numbers = [number for run in found for number in run]
     needed = 4 * len(found)
-    for table in [7] * needed, [7] * (needed + 1):
+    for places in needed, needed + 1, 4 * len(word):
+        table = [7] * places
         given = accepted(len(found)), numbers + table[needed:]
-        expect(runs(word, table) == given, "runs of", word, len(table))
+        expect(runs(word, table) == given, "runs of", word, places)
     if found:
         few = [7] * (needed - 1)
         expect(runs(word, few) == (refused(7), few), "few places for the runs of", word)

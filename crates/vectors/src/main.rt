@@ -1,7 +1,7 @@
 // Shows runs, nodes, best splits, the judges and paths in both editions, on document 01's sequences
-// and some more, every refusal of these calls with the tables before and after, and words from a
-// small generator. What is lent holds 7 in every place before the call; a list shows the lent
-// places after it. Each line is compared with the file stdout.
+// and some more, on words with many runs, every refusal of these calls with the tables before and
+// after, and words from a small generator. What is lent holds 7 in every place before the call; a
+// list shows the lent places after it. Each line is compared with the file stdout.
 use answers::Counted;
 use decimals::COMMA;
 use show::field;
@@ -46,6 +46,7 @@ fn graph() {
         ababbaba,17|bababab,4|cabcabca,4|abacabacab,4|abaaabaaabaa,17|",
     );
     symbols();
+    rich();
     rows(
         Call::Nodes,
         b"aabaabaa,1,3,1|aabaabaa,1,3,2|aabaabaa,1,3,5|aabaabaa,1,1,6|aabaabaa,1,3,8|\
@@ -70,6 +71,74 @@ fn symbols() {
         b"128 255 128 127 twice",
         b"\x80\xff\x80\x7f\x80\xff\x80\x7f",
     );
+}
+
+// How near its length the count of a word's runs comes, with four places lent for each symbol: they
+// always suffice.
+fn rich() {
+    let mut w = [97u8; 4096];
+    let mut places = [0u32; 18];
+    let zero: usize = 0;
+    let end: usize = 125;
+    w[1] = 98;
+    w[2] = 98;
+    show::cases::values(
+        b",3,5,11,13,24,37,56,69,125,162,218,380,505,667,1172,1552,2057,3609",
+        &mut places,
+    );
+    series(&mut w, &places);
+    near(b"aa");
+    near(b"aabaabbaabaabb");
+    near(&w[zero..end]);
+    named_near(b"4096 rich in runs", &w);
+}
+
+// A series of words with many runs for their length: each begins with the one before it and goes on
+// with an earlier one. So after its first three symbols the word begins again at each of the places.
+fn series(w: &mut [u8], places: &[u32]) {
+    let mut k: usize = 0;
+    while k < places.len() {
+        begin_again(w, places[k] as usize);
+        k += 1;
+    }
+}
+
+// The symbols from a place on become those from the first on.
+fn begin_again(w: &mut [u8], place: usize) {
+    let mut i = place;
+    while i < w.len() {
+        w[i] = w[i - place];
+        i += 1;
+    }
+}
+
+fn near(w: &[u8]) {
+    named_near(w, w);
+}
+
+// The word or its name, the length, the places lent and the answer; of a short table also what it
+// holds.
+fn named_near(name: &[u8], w: &[u8]) {
+    let mut table = [7u32; 16384];
+    let zero: usize = 0;
+    if w.len() <= 4096 {
+        let n = w.len() as u32;
+        let end = 4 * w.len();
+        text(b"runs,");
+        text(name);
+        field(n);
+        field(4 * n);
+        near_in(w, &mut table[zero..end]);
+    }
+}
+
+fn near_in(w: &[u8], table: &mut [u32]) {
+    outcome(runs::runs(w, table));
+    if table.len() <= 64 {
+        list(b"", table);
+    } else {
+        text(b"\n");
+    }
 }
 
 // For best the refusals in their order stand behind both choices of an edition; the working table
