@@ -1,18 +1,40 @@
 -- What a table holds after numbers are stored in it one after the other; a store past the end does nothing. By induction on the numbers. And tables that are
 -- the same from a place on. Assumes nothing.
 use mathlib.Core.Path.{_≡_, refl, sym, ap, _∙_}
+use mathlib.Core.Logic.{_⊎_, inl, inr}
 use mathlib.Core.List.{List, [], _∷_, _++_}
-use Prim.Native.Nat.{ℕ, suc, _+_, _-_, _≤_}
+use Prim.Native.Nat.{ℕ, zero, suc, _+_, _-_, _≤_, _<_}
 use native.Mathlib.Omega.{arith}
 use native.Mathlib.Nat.{add-zero, zero-add}
-use lib.ListN.{length, getD, set, drop, replicate, length-replicate}
-use lib.Seq.{sets, sets-eq, getD-drop}
+use lib.ListN.{length, getD, set, drop, replicate, length-set, length-replicate}
+use lib.Seq.{sets, sets-eq, set-out, getD-drop, getD-set-same, getD-set-other}
 
 pub sets-append : (t : List ℕ) (i : ℕ) (xs ys : List ℕ) → sets t i (xs ++ ys) ≡ sets (sets t i xs) (i + length xs) ys
 sets-append t i [] ys = ap (λ (k : ℕ). sets t k ys) (sym (add-zero i))
 sets-append t i (x ∷ xs) ys =
     let e : suc i + length xs ≡ i + suc (length xs) = omega arith in
     sets-append (set t i x) (suc i) xs ys ∙ ap (λ (k : ℕ). sets (sets (set t i x) (suc i) xs) k ys) e
+
+-- a place that nothing is stored in
+pub sets-out : (t : List ℕ) (i : ℕ) (vs : List ℕ) (k : ℕ) → (k < i) ⊎ (i + length vs ≤ k) → getD (sets t i vs) k 0 ≡ getD t k 0
+sets-out t i [] k h = refl
+sets-out t i (v ∷ vs) k (inl h) = sets-out (set t i v) (suc i) vs k (inl (omega arith)) ∙ getD-set-other t i k v 0 (λ e. omega arith)
+sets-out t i (v ∷ vs) k (inr h) = sets-out (set t i v) (suc i) vs k (inr (omega arith)) ∙ getD-set-other t i k v 0 (λ e. omega arith)
+
+-- and a place that has one of the numbers
+pub sets-in : (t : List ℕ) (i : ℕ) (vs : List ℕ) (j : ℕ) → j < length vs → i + length vs ≤ length t → getD (sets t i vs) (i + j) 0 ≡ getD vs j 0
+sets-in t i [] j l h = absurd (omega arith)
+sets-in t i (v ∷ vs) zero l h =
+    let e : i + 0 ≡ i = omega arith in
+    rw e (sets-out (set t i v) (suc i) vs i (inl (omega arith)) ∙ getD-set-same t i v 0 (omega arith))
+sets-in t i (v ∷ vs) (suc j) l h =
+    let e : i + suc j ≡ suc i + j = omega arith in
+    rw e (sets-in (set t i v) (suc i) vs j (omega arith) (omega (arith, length-set t i v)))
+
+-- past the end nothing is stored
+pub sets-past : (t : List ℕ) (i : ℕ) (vs : List ℕ) → length t ≤ i → sets t i vs ≡ t
+sets-past t i [] h = refl
+sets-past t i (v ∷ vs) h = ap (λ (x : List ℕ). sets x (suc i) vs) (set-out t i v h) ∙ sets-past t (suc i) vs (omega arith)
 
 -- nothing is stored in a table with no places
 pub sets-none : (i : ℕ) (vs : List ℕ) → sets [] i vs ≡ []

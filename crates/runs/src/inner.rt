@@ -1,7 +1,7 @@
 // For the library's own crates: the caller shows what each function requires.
 ghost use mathlib.Core.Path.{_≡_};
 ghost use mathlib.Core.List.{[], _∷_};
-ghost use Prim.Native.Nat.{_≤_, _<_, _+_, _-_, _*_, _/_, _%_};
+ghost use Prim.Native.Nat.{_≤_, _<_, _+_, _-_, _*_, _/_, _%_, _^_};
 ghost use lib.ListN.{length, set};
 ghost use lib.Seq.{sets};
 ghost use Rattle.answers.specs.Outcome.{limit};
@@ -25,8 +25,8 @@ pub fn store(table: &mut [u32], at: usize, value: u32)
 
 // Stores the record of a run as number i of the table from 0, as far as the table has the places.
 // This is the one place where a record's numbers are written.
-fn put(table: &mut [u32], i: usize, run: Record)
-    requires { ⌜ i ≤ limit * limit ⌝ }
+pub fn put(table: &mut [u32], i: usize, run: Record)
+    requires { ⌜ i < 2 ^ 32 ⌝ }
     ensures { λ _. ⌜ now (table .exit) ≡ sets (now (table .entry)) (stride * i) (numbersOf run) ⌝ }
 {
     let at = STRIDE * i;
@@ -96,7 +96,7 @@ fn is_run(w: &[u8], a: usize, b: usize, p: usize) -> bool
 // best can be it; from both on, `same` symbols agree. Where the next two symbols differ, the start
 // with the greater one comes later, and so do the next `same` starts beside those as far after the
 // other: all of them are passed over. At most 3p comparisons.
-fn root(w: &[u8], a: usize, p: usize) -> usize
+pub fn root(w: &[u8], a: usize, p: usize) -> usize
     requires { ⌜ (length (now w) ≤ limit) × (a + 2 * p ≤ length (now w)) × SmallestPeriod (part (now w) a (a + 2 * p)) p ⌝ }
     ensures { λ r. ⌜ r ≡ rootOf (now (w .entry)) a p ⌝ }
 {

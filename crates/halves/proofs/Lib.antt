@@ -1,0 +1,11 @@
+pub mod ScratchRows
+pub mod Candidates
+pub mod Stretches
+pub mod Recorded
+pub mod Added
+pub mod PlacesRead
+pub mod Filled
+pub mod Ways
+pub mod Sums
+pub mod Cleared
+pub mod Records

@@ -1,0 +1,69 @@
+-- What the finder keeps in its rows and in the table: ends has, for each boundary, the greatest end of a run that was found after it, next the number from 0 of
+-- the next record of such a run. Definitions only.
+use mathlib.Core.Path.{_≡_}
+use mathlib.Core.List.{List}
+use Prim.Native.Nat.{ℕ, zero, suc, _+_, _-_, _*_, _≤_, _<_}
+use lib.ListN.{length, getD}
+use Rattle.runs.specs.declared.Record.{Record}
+use Rattle.runs.specs.Table.{rootOf, rowsAt, rowsBefore, runsOf, stride, flat}
+use Rattle.halves.specs.Scratch.{Scratch, prefixRow, suffixRow, endsRow, nextRow}
+
+-- the record of a run with period p between two boundaries
+abbrev pub newRecord : List ℕ → ℕ → ℕ → ℕ → Record
+newRecord w a b p = record { first = a + 1; last = b; period = p; root = rootOf w a p }
+
+-- base has the number of the first record for each boundary
+pub record Starts (w base : List ℕ) : Type 0 where
+  pub at : (a : ℕ) → a < length w → getD base a 0 ≡ length (rowsBefore w a)
+
+-- the records of the runs that were found stand in their places, and nothing past those of all runs was written
+pub record Placed (w base t ends table : List ℕ) : Type 0 where
+  pub long : length table ≡ length t
+  pub at : (a j : ℕ) → a < length w → j < stride * length (rowsAt w a (getD ends a 0 - a)) → getD table (stride * getD base a 0 + j) 0 ≡ getD (flat (rowsAt w a (getD ends a 0 - a))) j 0
+  pub rest : (k : ℕ) → stride * length (runsOf w) ≤ k → getD table k 0 ≡ getD t k 0
+
+-- of the runs after boundary a exactly those are recorded that end at getD ends a 0 at the latest
+pub record Kept (w base t ends next table : List ℕ) : Type 0 where
+  pub below : (a : ℕ) → a < length w → getD ends a 0 ≤ length w
+  pub counted : (a : ℕ) → a < length w → getD next a 0 ≡ getD base a 0 + length (rowsAt w a (getD ends a 0 - a))
+  pub placed : Starts w base → stride * length (runsOf w) ≤ length t → Placed w base t ends table
+
+-- the numbers stay numbers of 32 bits
+pub record Room (w ends next : List ℕ) : Type 0 where
+  pub small : (a : ℕ) → a < length w → getD next a 0 + (length w - getD ends a 0) < 4294967296
+
+-- a step of the finder: whatever was recorded is kept, and what is new is recorded behind it
+pub record Keeps (w ends next table ends′ next′ table′ : List ℕ) : Type 0 where
+  pub grows : (a : ℕ) → getD ends a 0 ≤ getD ends′ a 0
+  pub room : Room w ends next → Room w ends′ next′
+  pub kept : (base t : List ℕ) → Kept w base t ends next table → Kept w base t ends′ next′ table′
+
+-- the scratch and the room in its rows
+abbrev pub Roomy : List ℕ → List ℕ → Type 0
+Roomy w s = Scratch w s × Room w (endsRow w s) (nextRow w s)
+
+-- the same step, of the scratch and the table
+abbrev pub Advances : List ℕ → List ℕ → List ℕ → List ℕ → List ℕ → Type 0
+Advances w s table s′ table′ = Keeps w (endsRow w s) (nextRow w s) table (endsRow w s′) (nextRow w s′) table′
+
+-- the rows of common prefixes and suffixes stay
+pub record SamePrefixes (w s s′ : List ℕ) : Type 0 where
+  pub prefixes : prefixRow w s′ ≡ prefixRow w s
+  pub suffixes : suffixRow w s′ ≡ suffixRow w s
+
+-- the rows of what was found and recorded stay
+pub record SameRecords (w s s′ : List ℕ) : Type 0 where
+  pub ends : endsRow w s′ ≡ endsRow w s
+  pub next : nextRow w s′ ≡ nextRow w s
+
+-- ---- sums
+
+-- the sum of the first numbers of a table
+unfoldable pub sumTo : List ℕ → ℕ → ℕ
+sumTo s zero = 0
+sumTo s (suc a) = sumTo s a + getD s a 0
+
+-- the first a numbers of s were replaced by the sums of those before them
+pub record Summed (s r : List ℕ) (a : ℕ) : Type 0 where
+  pub done : (k : ℕ) → k < a → getD r k 0 ≡ sumTo s k
+  pub rest : (k : ℕ) → a ≤ k → getD r k 0 ≡ getD s k 0

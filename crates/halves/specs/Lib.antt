@@ -1,0 +1,3 @@
+pub mod Scratch
+pub mod Found
+pub mod Kept

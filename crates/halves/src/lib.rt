@@ -1,0 +1,10 @@
+// The table of all runs of a word, found by halves: the runs of both halves of a part, then those that
+// cross its middle.
+pub mod inner;
+mod node;
+
+// The rows of the finder's scratch, each with a place for every boundary of the word.
+pub const ROWS: usize = 4;
+
+// Words of at most so many symbols get local arrays of this size, others arrays of the limit's.
+pub const SHORT: usize = 64;

@@ -1,0 +1,2 @@
+pub mod Match
+pub mod Filled
