@@ -8,9 +8,9 @@
 //! ```
 //!
 //! The second times only the calls whose names have that word. `cargo test --benches` compares the
-//! answers and times nothing. With write a page comes a second table: what it takes beyond path of a
-//! split, for each block. With which first and first block comes a third: what they take of the time
-//! of two fewest splits, of each the median batch.
+//! answers and times nothing. A second table has each call on words of 8 symbols. With write a page
+//! comes one more: what it takes beyond path of a split, for each block. With which first and first
+//! block another: what they take of the time of two fewest splits, of each the median batch.
 //!
 //! A call that is told an edition has a row for each, on the same words. Buffers are allocated once
 //! and not cleared between calls. Each figure is processor time, the least of several batches, those
@@ -26,6 +26,7 @@ use std::hint::black_box;
 use words::{fibonacci, last_differs, thue_morse};
 
 const LENGTHS: [usize; 4] = [512, 1024, 2048, 4096];
+const SHORT: usize = 8;
 const DOUBLINGS: f64 = 3.0;
 const BATCHES: usize = 11;
 /// More, where a small difference of two times is wanted.
@@ -671,6 +672,18 @@ fn to_first(call: &Call, word: &[u8]) -> f64 {
     two / one
 }
 
+/// The number of an edition, for a call that is told one.
+fn told(edition: Option<Edition>) -> String {
+    edition.map_or("–".to_string(), |e| e.number().to_string())
+}
+
+fn said(given: &Answer) -> String {
+    match given {
+        Ok(_) => "accepted".to_string(),
+        Err((number, _)) => format!("refused {number}"),
+    }
+}
+
 /// One row of the table.
 struct Row {
     call: &'static str,
@@ -724,14 +737,8 @@ impl Row {
     }
 
     fn print(&self) {
-        let edition = self
-            .edition
-            .map_or("–".to_string(), |e| e.number().to_string());
+        let (edition, said) = (told(self.edition), said(&self.given));
         let to_first = self.to_first.map_or("–".to_string(), |r| format!("{r:.2}"));
-        let said = match self.given {
-            Ok(_) => "accepted".to_string(),
-            Err((number, _)) => format!("refused {number}"),
-        };
         let times = self.times.map(|t| format!("{:.1}", t * MICRO)).join(" | ");
         println!(
             "| {} | {edition} | {} | {said} | {times} | {:.2} | {:.1} | {:.2} | {to_first} |",
@@ -834,6 +841,32 @@ fn time_pages() {
     }
 }
 
+/// Each call on words of a few symbols, where what is done once a call counts most: the word that
+/// takes it longest.
+fn time_short(calls: impl Iterator<Item = &'static Call>) {
+    println!("\nTime of one call on words of {SHORT} symbols in nanoseconds, for the word that takes the library longest.\n");
+    println!("| call | edition | word | answer | library | twin |");
+    println!("|---|---|---|---|--:|--:|");
+    for call in calls {
+        for &edition in editions(call) {
+            let measured = families(call).iter().map(|&(word, make)| {
+                let (library, twin, given) = measure(call, &Input::new(make(SHORT), edition));
+                (word, library, twin, given)
+            });
+            let slowest = measured.max_by(|a, b| a.1.total_cmp(&b.1));
+            let (word, library, twin, given) = slowest.expect("there are words");
+            println!(
+                "| {} | {} | {word} | {} | {:.0} | {:.0} |",
+                call.name,
+                told(call.in_editions.then_some(edition)),
+                said(&given),
+                library * NANO,
+                twin * NANO
+            );
+        }
+    }
+}
+
 /// Of the batches of a long call the least is a matter of luck, to a few hundredths.
 fn median(mut times: Vec<f64>) -> f64 {
     times.sort_by(f64::total_cmp);
@@ -894,14 +927,15 @@ fn greatest(figures: impl Iterator<Item = f64>) -> f64 {
     figures.fold(0.0, f64::max)
 }
 
-/// Compares the answers at the least length.
+/// Compares the answers at the least length, and on words of a few symbols.
 fn compare(calls: impl Iterator<Item = &'static Call>) {
-    let n = LENGTHS[0];
     for call in calls {
         for (_, make) in families(call) {
             for &edition in editions(call) {
-                let (mut ours, mut theirs) = (Buffers::new(n), Buffers::new(n));
-                agreed(call, &Input::new(make(n), edition), &mut ours, &mut theirs).ok();
+                for n in [SHORT, LENGTHS[0]] {
+                    let (mut ours, mut theirs) = (Buffers::new(n), Buffers::new(n));
+                    agreed(call, &Input::new(make(n), edition), &mut ours, &mut theirs).ok();
+                }
             }
         }
     }
@@ -947,7 +981,8 @@ fn main() {
     let pages = PAGE.contains(wanted);
     let pairs = [WHICH, BLOCK].iter().any(|name| name.contains(wanted));
     if arguments.iter().any(|a| a == "--bench") {
-        time(chosen);
+        time(chosen.clone());
+        time_short(chosen);
         if pages {
             time_pages();
         }

@@ -1507,6 +1507,133 @@ fn long_split(
     checker.judge_split(w, edition, &ends[..ends.len() - 1]);
 }
 
+// ---- the cuts of the finder of runs, which halves a word and then each half
+
+/// The lengths up to the limit that are powers of two, one less and one more.
+fn lengths_at_powers_of_two(least: usize) -> impl Iterator<Item = usize> {
+    (0..=12)
+        .map(|k| 1 << k)
+        .filter(move |&power| least <= power)
+        .flat_map(|power| [power - 1, power, power + 1])
+        .filter(|&n| n <= LIMIT)
+}
+
+/// The runs of a word, its nodes at the cuts and beside them, and at both ends.
+fn runs_and_nodes(checker: &mut Checker, w: &[u8]) {
+    let (known, n) = (Known::unsplit(w), w.len());
+    checker.runs_sizes(&known);
+    for position in [1, n / 4, n / 2, n / 2 + 1, n - n / 4, n - 1, n] {
+        for edition in EDITIONS {
+            checker.nodes_sizes(&known, edition, position as u32);
+        }
+    }
+}
+
+/// Whole words of 2^k symbols, one less and one more, which are halved evenly or not.
+#[test]
+fn words_of_powers_of_two() {
+    let mut checker = Checker::default();
+    let mut numbers = Numbers(88_172_645_463_325_252);
+    for n in lengths_at_powers_of_two(4) {
+        for w in structured(n).into_iter().chain([run_rich(n)]) {
+            if n < 200 {
+                long_word(&mut checker, &mut numbers, &w);
+            } else {
+                runs_and_nodes(&mut checker, &w);
+            }
+        }
+        // Splits over many runs of equal units, and what is near their paths.
+        for (turns, edition) in [(2, 1), (3, 2)] {
+            let (mut w, mut ends) = numbers.split(n, turns, 3, 2);
+            if w.is_empty() {
+                (w, ends) = (vec![b'a'; turns], vec![turns as u32]);
+            }
+            let known = Known::unsplit(&w);
+            checker.path_sizes(&known, edition, &ends);
+            let path = known.path(edition, &ends);
+            checker.judge_path(&known, edition, &path);
+            for _ in 0..20 {
+                let near = numbers.damaged(&path);
+                checker.judge_path(&known, edition, &near);
+                let near = numbers.damaged(&ends);
+                checker.path_of_split(&known, edition, &near, near.len());
+            }
+        }
+    }
+    checker.report("words of powers of two");
+}
+
+/// One run among symbols that differ, which ends or starts at a power of two, one before or one
+/// after it, of units up to half of that.
+#[test]
+fn runs_beside_cuts() {
+    let mut checker = Checker::default();
+    let mut numbers = Numbers(0x9e37_79b9_7f4a_7c15);
+    for k in 1..=11 {
+        let power = 1usize << k;
+        let mut units = vec![1, 2, 3, power / 4, power / 3, power / 2];
+        units.sort();
+        units.dedup();
+        for n in [2 * power - 1, 2 * power, (2 * power + 1).min(LIMIT)] {
+            for cut in [power - 1, power, power + 1] {
+                for &unit in units.iter().filter(|&&u| 0 < u) {
+                    let symbols = numbers.word(unit, 3);
+                    for length in [2 * unit, 2 * unit + 1, 3 * unit + unit / 2] {
+                        for start in [cut.checked_sub(length), Some(cut)] {
+                            let Some(start) = start.filter(|s| s + length <= n) else {
+                                continue;
+                            };
+                            if 512 < n && numbers.below(6) != 0 {
+                                continue;
+                            }
+                            let mut w: Vec<u8> = (0..n).map(|i| 3 + (i % 253) as u8).collect();
+                            for (i, place) in w[start..start + length].iter_mut().enumerate() {
+                                *place = symbols[i % unit];
+                            }
+                            runs_and_nodes(&mut checker, &w);
+                        }
+                    }
+                }
+            }
+        }
+    }
+    checker.report("runs beside cuts");
+}
+
+/// Powers of powers: a unit wound some times and one symbol more, all of it wound again, and again;
+/// and the same with one symbol changed.
+#[test]
+fn powers_of_powers() {
+    let mut checker = Checker::default();
+    let mut numbers = Numbers(88_172_645_463_325_252);
+    for unit in [&b"a"[..], b"ab", b"aab", b"abaab"] {
+        for turns in [
+            [2, 2, 2],
+            [3, 2, 4],
+            [2, 5, 3],
+            [7, 3, 2],
+            [4, 4, 4],
+            [16, 8, 4],
+        ] {
+            let mut w = unit.to_vec();
+            for (level, times) in turns.into_iter().enumerate() {
+                w = w.repeat(times);
+                let mut changed = w.clone();
+                changed[numbers.below(w.len())] ^= 1;
+                for w in [&w, &changed] {
+                    if w.len() < 200 {
+                        long_word(&mut checker, &mut numbers, w);
+                    } else {
+                        runs_and_nodes(&mut checker, w);
+                    }
+                }
+                w.push(b"abx"[level]);
+            }
+        }
+    }
+    checker.report("powers of powers");
+}
+
 /// The same word one symbol too long for every call: 1 comes before anything else.
 #[test]
 fn words_over_the_limit() {

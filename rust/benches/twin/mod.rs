@@ -4,6 +4,10 @@
 pub type Answer<T> = Result<T, (u32, u32)>;
 
 const LIMIT: usize = 4096;
+/// Words of at most so many symbols get small arrays.
+const SHORT: usize = 64;
+/// The rows that the finder of runs works in.
+const ROWS: usize = 4;
 const NONE: u32 = u32::MAX;
 const STRIDE: usize = 4;
 const LINE: usize = 61;
@@ -93,16 +97,6 @@ fn store(table: &mut [u32], at: usize, value: u32) {
     }
 }
 
-fn is_run(w: &[u8], a: usize, b: usize, p: usize) -> bool {
-    if b - a < 2 * p {
-        return false;
-    }
-    if 0 < a && w[a - 1] == w[a - 1 + p] {
-        return false;
-    }
-    b == w.len() || w[b] != w[b - p]
-}
-
 /// The root of a run after boundary a, of unit p. Of the starts below j only i is left, and from i and
 /// from j on k symbols agree. They are fewer than p, since the unit is primitive, and so lie in the
 /// two turns that a run has.
@@ -126,67 +120,179 @@ fn root(w: &[u8], a: usize, p: usize) -> usize {
     a + i + 1
 }
 
-fn rows_at(w: &[u8], a: usize, unit_table: &mut [u32], table: &mut [u32], at: usize) -> usize {
-    let n = w.len();
-    units(&w[a..n], unit_table);
-    let mut count = at;
-    for b in a + 1..=n {
-        let p = unit_table[b - a - 1] as usize;
-        if is_run(w, a, b, p) {
-            store(table, STRIDE * count, (a + 1) as u32);
-            store(table, STRIDE * count + 1, b as u32);
-            store(table, STRIDE * count + 2, p as u32);
-            store(table, STRIDE * count + 3, root(w, a, p) as u32);
-            count += 1;
+/// How far what stands at each place of the part, or of its mirror, agrees with what stands at mid.
+fn matches(part: &[u8], mirrored: bool, mid: usize, table: &mut [u32]) {
+    let len = part.len();
+    let symbol = |i: usize| if mirrored { part[len - 1 - i] } else { part[i] };
+    for (from, to) in [(mid + 1, len + 1), (0, mid)] {
+        // what stands between left and right agrees with what stands at mid
+        let (mut left, mut right) = (from, from);
+        for i in from..to {
+            let mut k = 0;
+            if i < right {
+                k = (table[mid + (i - left)] as usize).min(right - i);
+            }
+            while i + k < len && mid + k < len && symbol(i + k) == symbol(mid + k) {
+                k += 1;
+            }
+            table[i] = k as u32;
+            if right < i + k {
+                (left, right) = (i, i + k);
+            }
         }
     }
-    count
+    table[mid] = (len - mid) as u32;
 }
 
-fn enumerate(w: &[u8], unit_table: &mut [u32], table: &mut [u32]) -> usize {
-    let mut count = 0;
-    for a in 0..w.len() {
-        count = rows_at(w, a, unit_table, table, count);
+/// The rows that the finder of runs works in.
+struct Rows<'a> {
+    prefixes: &'a mut [u32],
+    suffixes: &'a mut [u32],
+    /// The greatest end found for each start.
+    ends: &'a mut [u32],
+    /// The number of the next record for each start.
+    next: &'a mut [u32],
+}
+
+impl Rows<'_> {
+    fn new(scratch: &mut [u32], n: usize) -> Rows<'_> {
+        let (prefixes, rest) = scratch.split_at_mut(n + 1);
+        let (suffixes, rest) = rest.split_at_mut(n + 1);
+        let (ends, rest) = rest.split_at_mut(n + 1);
+        Rows {
+            prefixes,
+            suffixes,
+            ends,
+            next: &mut rest[..n + 1],
+        }
     }
-    count
+
+    /// Records the part of period p from left before c to right after c + p, if it is a run that
+    /// was not found yet.
+    fn attempt(
+        &mut self,
+        w: &[u8],
+        c: usize,
+        p: usize,
+        left: usize,
+        right: usize,
+        table: &mut [u32],
+    ) {
+        if left + right < p {
+            return;
+        }
+        let (a, b) = (c - left, c + p + right);
+        if b <= self.ends[a] as usize
+            || 0 < a && w[a - 1] == w[a - 1 + p]
+            || b < w.len() && w[b] == w[b - p]
+        {
+            return;
+        }
+        self.ends[a] = b as u32;
+        let at = STRIDE * self.next[a] as usize;
+        if let Some(record) = table.get_mut(at..at + STRIDE) {
+            let root = root(w, a, p);
+            record.copy_from_slice(&[(a + 1) as u32, b as u32, p as u32, root as u32]);
+        }
+        self.next[a] += 1;
+    }
+
+    /// The runs between lo and hi that cross m.
+    fn cross(&mut self, w: &[u8], lo: usize, m: usize, hi: usize, table: &mut [u32]) {
+        let (mid, rest) = (m - lo, hi - m);
+        matches(&w[lo..hi], false, mid, self.prefixes);
+        matches(&w[lo..hi], true, rest, self.suffixes);
+        for p in 1..=(hi - lo) / 2 {
+            if p <= rest {
+                let (left, right) = (self.suffixes[rest - p], self.prefixes[mid + p]);
+                self.attempt(w, m, p, left as usize, right as usize, table);
+            }
+            if p <= mid {
+                let (left, right) = (self.suffixes[rest + p], self.prefixes[mid - p]);
+                self.attempt(w, m - p, p, left as usize, right as usize, table);
+            }
+        }
+    }
+
+    fn solve(&mut self, w: &[u8], lo: usize, hi: usize, table: &mut [u32]) {
+        if hi - lo < 2 {
+            return;
+        }
+        let m = lo + (hi - lo) / 2;
+        self.solve(w, lo, m, table);
+        self.solve(w, m, hi, table);
+        self.cross(w, lo, m, hi, table);
+    }
+}
+
+/// Writes the records of all runs if the table has places for them, and gives their count.
+fn list(w: &[u8], scratch: &mut [u32], table: &mut [u32]) -> usize {
+    let n = w.len();
+    let mut rows = Rows::new(scratch, n);
+    rows.ends.fill(0);
+    rows.next.fill(0);
+    rows.solve(w, 0, n, &mut []);
+    let mut total = 0;
+    for start in &mut rows.next[..n] {
+        let count = *start;
+        *start = total;
+        total += count;
+    }
+    let total = total as usize;
+    if STRIDE * total <= table.len() {
+        rows.ends.fill(0);
+        rows.solve(w, 0, n, table);
+    }
+    total
+}
+
+fn listed(w: &[u8], scratch: &mut [u32], table: &mut [u32]) -> Answer<u32> {
+    let count = list(w, scratch, table);
+    if table.len() < STRIDE * count {
+        return Err((7, 0));
+    }
+    Ok(count as u32)
 }
 
 pub fn runs(w: &[u8], table: &mut [u32]) -> Answer<u32> {
     if LIMIT < w.len() {
         return Err((1, 0));
     }
-    let mut unit_table = [0; LIMIT];
-    let count = enumerate(w, &mut unit_table, &mut []);
-    if table.len() < STRIDE * count {
-        return Err((7, 0));
+    if w.len() <= SHORT {
+        return listed(w, &mut [0; ROWS * (SHORT + 1)], table);
     }
-    enumerate(w, &mut unit_table, table);
-    Ok(count as u32)
+    listed(w, &mut [0; ROWS * (LIMIT + 1)], table)
 }
 
-fn nodes_at(
+/// The numbers of the records with a white node at position x.
+fn pick(records: &[u32], turns: usize, x: usize, out: &mut [u32]) -> usize {
+    let mut found = 0;
+    for (i, record) in records.chunks_exact(STRIDE).enumerate() {
+        let from = record[0] as usize + turns * record[2] as usize;
+        if from <= x + 1 && x <= record[1] as usize {
+            store(out, found, (i + 1) as u32);
+            found += 1;
+        }
+    }
+    found
+}
+
+fn nodes_in(
     w: &[u8],
     turns: usize,
     x: usize,
-    unit_table: &mut [u32],
-    rows: &mut [u32],
-    out: &mut [u32],
-) -> usize {
-    let mut found = 0;
-    let mut number = 0;
-    for a in 0..x {
-        let count = rows_at(w, a, unit_table, rows, 0);
-        for i in 0..count {
-            let row = &rows[STRIDE * i..STRIDE * i + STRIDE];
-            let from = row[0] as usize + turns * row[2] as usize;
-            if from <= x + 1 && x <= row[1] as usize {
-                store(out, found, (number + i + 1) as u32);
-                found += 1;
-            }
-        }
-        number += count;
+    scratch: &mut [u32],
+    records: &mut [u32],
+    table: &mut [u32],
+) -> Answer<u32> {
+    let total = list(w, scratch, records);
+    let records = &records[..STRIDE * total];
+    let count = pick(records, turns, x, &mut []);
+    if table.len() < count {
+        return Err((7, 0));
     }
-    found
+    pick(records, turns, x, table);
+    Ok(count as u32)
 }
 
 pub fn nodes(w: &[u8], edition: u32, position: u32, table: &mut [u32]) -> Answer<u32> {
@@ -198,14 +304,12 @@ pub fn nodes(w: &[u8], edition: u32, position: u32, table: &mut [u32]) -> Answer
     if position < 1 || w.len() < x {
         return Err((6, 0));
     }
-    let mut unit_table = [0; LIMIT];
-    let mut rows = [0; STRIDE * LIMIT];
-    let count = nodes_at(w, turns, x, &mut unit_table, &mut rows, &mut []);
-    if table.len() < count {
-        return Err((7, 0));
+    if w.len() <= SHORT {
+        let mut scratch = [0; ROWS * (SHORT + 1)];
+        return nodes_in(w, turns, x, &mut scratch, &mut [0; STRIDE * SHORT], table);
     }
-    nodes_at(w, turns, x, &mut unit_table, &mut rows, table);
-    Ok(count as u32)
+    let mut scratch = [0; ROWS * (LIMIT + 1)];
+    nodes_in(w, turns, x, &mut scratch, &mut [0; STRIDE * LIMIT], table)
 }
 
 fn offer(work: &mut [u32], choice: u32, at: usize, back: usize, size: u32, j: u32) {
@@ -432,7 +536,7 @@ pub fn judge_squares(w: &[u8], ends: &[u32]) -> Answer<u32> {
 }
 
 /// No part that is tested is empty.
-fn judge(w: &[u8], ends: &[u32], fits: impl Fn(&[u8]) -> bool) -> Answer<u32> {
+fn judge(w: &[u8], ends: &[u32], mut fits: impl FnMut(&[u8]) -> bool) -> Answer<u32> {
     let n = w.len();
     let mut before = 0;
     for (k, &end) in ends.iter().enumerate() {
@@ -452,68 +556,85 @@ fn judge(w: &[u8], ends: &[u32], fits: impl Fn(&[u8]) -> bool) -> Answer<u32> {
     Ok(ends.len() as u32)
 }
 
-fn count_runs(w: &[u8], unit_table: &mut [u32], table: &mut [u32]) {
-    let mut total = 0;
-    let mut a = 0;
-    while a < w.len() {
-        table[a] = total as u32;
-        total = rows_at(w, a, unit_table, &mut [], total);
-        a += 1;
-    }
-    table[a] = total as u32;
+/// The unit of a part, by the units of its leading parts.
+fn unit_of(part: &[u8], unit_table: &mut [u32]) -> u32 {
+    units(part, unit_table);
+    unit_table[part.len() - 1]
 }
 
-fn left_end(w: &[u8], i: usize, p: usize) -> usize {
-    let mut a = i;
-    while 0 < a && w[a - 1] == w[a - 1 + p] {
-        a -= 1;
-    }
-    a
+fn blocks_in(w: &[u8], turns: usize, ends: &[u32], unit_table: &mut [u32]) -> Answer<u32> {
+    judge(w, ends, |part| {
+        turns * unit_of(part, unit_table) as usize <= part.len()
+    })
 }
 
-fn number_of(
-    w: &[u8],
-    counts: &[u32],
-    a: usize,
-    period: u32,
-    unit_table: &mut [u32],
-    rows: &mut [u32],
-) -> u32 {
-    let count = rows_at(w, a, unit_table, rows, 0);
-    for i in 0..count {
-        if rows[STRIDE * i + 2] == period {
-            return counts[a] + i as u32 + 1;
-        }
+/// The verdict of judge a split, in time linear in the word's length.
+fn judge_blocks(w: &[u8], edition: u32, ends: &[u32]) -> Answer<u32> {
+    if LIMIT < w.len() {
+        return Err((1, 0));
     }
-    0
+    let turns = turns_of(edition)?;
+    if w.len() <= SHORT {
+        return blocks_in(w, turns, ends, &mut [0; SHORT]);
+    }
+    blocks_in(w, turns, ends, &mut [0; LIMIT])
 }
 
-fn block_units(w: &[u8], ends: &[u32], table: &mut [u32]) {
+fn units_in(w: &[u8], ends: &[u32], unit_table: &mut [u32], table: &mut [u32]) {
     let mut before = 0;
     for (k, &end) in ends.iter().enumerate() {
         let end = end as usize;
-        table[k] = smallest_period(&w[before..end]) as u32;
+        table[k] = unit_of(&w[before..end], unit_table);
         before = end;
     }
 }
 
-/// Puts the run numbers in the places of the units.
-fn number_blocks(w: &[u8], ends: &[u32], table: &mut [u32]) {
-    let mut counts = [0; LIMIT + 1];
-    let mut unit_table = [0; LIMIT];
-    let mut rows = [0; STRIDE * LIMIT];
-    count_runs(w, &mut unit_table, &mut counts);
-    let mut before = 0;
+fn block_units(w: &[u8], ends: &[u32], table: &mut [u32]) {
+    if w.len() <= SHORT {
+        return units_in(w, ends, &mut [0; SHORT], table);
+    }
+    units_in(w, ends, &mut [0; LIMIT], table);
+}
+
+/// Goes on over the records that start at or before a boundary: of each unit the number of the latest
+/// is kept.
+fn note(records: &[u32], before: usize, from: usize, latest: &mut [u32]) -> usize {
+    let mut number = from;
+    for record in records[STRIDE * from..].chunks_exact(STRIDE) {
+        if before + 1 < record[0] as usize {
+            break;
+        }
+        number += 1;
+        latest[record[2] as usize] = number as u32;
+    }
+    number
+}
+
+fn numbers_in(w: &[u8], ends: &[u32], scratch: &mut [u32], records: &mut [u32], table: &mut [u32]) {
+    let total = list(w, scratch, records);
+    let (records, latest) = (&records[..STRIDE * total], &mut scratch[..w.len() + 1]);
+    latest.fill(0);
+    let (mut before, mut noted) = (0, 0);
     for (k, &end) in ends.iter().enumerate() {
-        let unit = table[k];
-        let a = left_end(w, before, unit as usize);
-        table[k] = number_of(w, &counts, a, unit, &mut unit_table, &mut rows);
+        noted = note(records, before, noted, latest);
+        table[k] = latest[table[k] as usize];
         before = end as usize;
     }
 }
 
+/// Puts the run numbers in the places of the units: the run of a block is the latest of its unit that
+/// starts at or before it.
+fn number_blocks(w: &[u8], ends: &[u32], table: &mut [u32]) {
+    if w.len() <= SHORT {
+        let mut scratch = [0; ROWS * (SHORT + 1)];
+        return numbers_in(w, ends, &mut scratch, &mut [0; STRIDE * SHORT], table);
+    }
+    let mut scratch = [0; ROWS * (LIMIT + 1)];
+    numbers_in(w, ends, &mut scratch, &mut [0; STRIDE * LIMIT], table);
+}
+
 pub fn path_of_split(w: &[u8], edition: u32, ends: &[u32], table: &mut [u32]) -> Answer<u32> {
-    let blocks = judge_split(w, edition, ends)?;
+    let blocks = judge_blocks(w, edition, ends)?;
     if table.len() < ends.len() {
         return Err((7, 0));
     }
@@ -522,57 +643,28 @@ pub fn path_of_split(w: &[u8], edition: u32, ends: &[u32], table: &mut [u32]) ->
     Ok(blocks)
 }
 
-fn run_with(
+fn path_in(
     w: &[u8],
-    counts: &[u32],
-    number: u32,
-    unit_table: &mut [u32],
-    rows: &mut [u32],
-) -> Option<[usize; 3]> {
-    if number == 0 || counts[w.len()] < number {
-        return None;
-    }
-    let mut a = 0;
-    while counts[a + 1] < number {
-        a += 1;
-    }
-    rows_at(w, a, unit_table, rows, 0);
-    let base = STRIDE * ((number - counts[a]) as usize - 1);
-    Some([
-        rows[base] as usize,
-        rows[base + 1] as usize,
-        rows[base + 2] as usize,
-    ])
-}
-
-pub fn judge_path(w: &[u8], edition: u32, numbers: &[u32]) -> Answer<u32> {
+    turns: usize,
+    numbers: &[u32],
+    scratch: &mut [u32],
+    records: &mut [u32],
+) -> Answer<u32> {
     let n = w.len();
-    if LIMIT < n {
-        return Err((1, 0));
-    }
-    let turns = turns_of(edition)?;
-    if numbers.len() % 2 == 1 {
-        return Err((10, 0));
-    }
-    let mut counts = [0; LIMIT + 1];
-    let mut unit_table = [0; LIMIT];
-    let mut rows = [0; STRIDE * LIMIT];
-    count_runs(w, &mut unit_table, &mut counts);
-    let mut before = 0;
-    let mut blocks = 0;
+    let total = list(w, scratch, records);
+    let records = &records[..STRIDE * total];
+    let (latest, unit_table) = scratch.split_at_mut(n + 1);
+    latest.fill(0);
+    let (mut before, mut noted, mut blocks) = (0, 0, 0);
     for pair in numbers.chunks_exact(2) {
         let end = pair[1] as usize;
         blocks += 1;
         if end <= before || n < end {
             return Err((3, blocks));
         }
-        let inside = match run_with(w, &counts, pair[0], &mut unit_table, &mut rows) {
-            None => false,
-            Some([first, last, p]) => {
-                first <= before + 1 && end <= last && before + turns * p <= end
-            }
-        };
-        if !inside {
+        noted = note(records, before, noted, latest);
+        let unit = unit_of(&w[before..end], unit_table) as usize;
+        if end < before + turns * unit || latest[unit] != pair[0] {
             return Err((4, blocks));
         }
         before = end;
@@ -581,6 +673,22 @@ pub fn judge_path(w: &[u8], edition: u32, numbers: &[u32]) -> Answer<u32> {
         return Err((5, 0));
     }
     Ok(blocks)
+}
+
+pub fn judge_path(w: &[u8], edition: u32, numbers: &[u32]) -> Answer<u32> {
+    if LIMIT < w.len() {
+        return Err((1, 0));
+    }
+    let turns = turns_of(edition)?;
+    if numbers.len() % 2 == 1 {
+        return Err((10, 0));
+    }
+    if w.len() <= SHORT {
+        let mut scratch = [0; ROWS * (SHORT + 1)];
+        return path_in(w, turns, numbers, &mut scratch, &mut [0; STRIDE * SHORT]);
+    }
+    let mut scratch = [0; ROWS * (LIMIT + 1)];
+    path_in(w, turns, numbers, &mut scratch, &mut [0; STRIDE * LIMIT])
 }
 
 fn put_column(out: &mut [u8], x: usize) {
@@ -610,7 +718,7 @@ fn put_symbols(out: &mut [u8], unit: &[u8]) {
 }
 
 pub fn write_page(w: &[u8], edition: u32, ends: &[u32], out: &mut [u8]) -> Answer<u32> {
-    judge_split(w, edition, ends)?;
+    judge_blocks(w, edition, ends)?;
     let bytes = LINE * ends.len();
     if out.len() < bytes {
         return Err((7, 0));
