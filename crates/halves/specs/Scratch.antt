@@ -12,6 +12,10 @@ use Rattle.runs.specs.Table.{runsOf, stride, flat}
 abbrev pub scratchRows : ℕ
 scratchRows = 4
 
+-- the longest of the words that get small arrays
+abbrev pub shortLimit : ℕ
+shortLimit = 64
+
 -- the word is within the limit, and each row has a place for every boundary of it
 abbrev pub Scratch : List ℕ → List ℕ → Type 0
 Scratch w s = (length w ≤ limit) × (scratchRows * (length w + 1) ≤ length s)

@@ -1,31 +1,25 @@
 -- White nodes: the test decides them, so the numbers of the records that pass it are those of the runs with a node, rising: `nodes-listed`, for any records.
--- Then the laws that the code goes by: one more record, one more boundary, and that the runs which start after position x have no node there. By induction on
--- the records. Assumes nothing.
+-- Then the laws that the code goes by: one more record, and the order of its tests. By induction on the records. Assumes nothing.
 use mathlib.Core.Path.{_≡_, refl, sym, ap, _∙_, subst}
 use mathlib.Core.Logic.{_⊎_, inl, inr}
 use mathlib.Core.Bool.{Bool, true, false, cond, _&&_, and-true}
 use mathlib.Core.List.{List, [], _∷_, _++_, append-assoc, append-nil, List·Memᴰ, List·Memᴰ·head, List·Memᴰ·tail, List·Memᴰ·cases-cons, List·Memᴰ·not-nil}
-use Prim.Native.Nat.{ℕ, zero, suc, _+_, _-_, _*_, _≤_, _<_}
+use Prim.Native.Nat.{ℕ, zero, suc, _+_, _*_, _≤_, _<_}
 use native.Mathlib.Omega.{arith}
 use native.Mathlib.Numerals.{add-one}
-use native.Mathlib.Nat.{zero-add, add-zero, mul-le-mul-right}
+use native.Mathlib.Nat.{zero-add, add-zero}
 use borrow.Author.Tests.{le-leb, lt-leb}
 use lib.Dec.{T, leb, leb→le, le→leb}
-use lib.ListN.{length, length-append}
-use lib.Seq.{sets}
+use lib.ListN.{length}
 use Rattle.laws.proofs.Tests.{and-intro, and-left, and-right}
-use Rattle.laws.proofs.Stores.{sets-append}
 use Rattle.periods.specs.Period.{anyPeriod}
-use Rattle.periods.proofs.Claims.{part-smallest}
+use Rattle.periods.specs.Edition.{turnsOf}
 use Rattle.runs.specs.declared.Record.{Record}
 use Rattle.runs.specs.Run.{Entry}
 use Rattle.nodes.specs.Node.{White, node?, numbersWhere, nodesAt}
-use Rattle.runs.specs.Table.{rowsAt, rowsBefore, runsOf, recordAt, records, flat}
+use Rattle.runs.specs.Table.{runsOf, recordAt, records}
 use Rattle.nodes.specs.Calls.{Rising, ListsNodes}
-use Rattle.runs.proofs.Listed.{at-sound}
-use Rattle.runs.proofs.Rows.{before-none, before-more}
 use Rattle.runs.proofs.Records.{records-more, length-records}
-use Rattle.nodes.specs.Inner.{rowsLeft}
 
 -- ---- the numbers of the records that pass a test
 
@@ -87,29 +81,19 @@ module _ (t : Record → Bool) where
       go ih true = omega arith
       go ih false = omega arith
 
-  -- where none passes
-  numbers-none : (i : ℕ) (rs : List Record) → ((j : ℕ) (r : Record) → Entry rs j r → t r ≡ false) → numbersWhere t i rs ≡ []
-  numbers-none i [] h = refl
-  numbers-none i (r ∷ rs) h = rw (h 1 r refl) (numbers-none (suc i) rs (λ j s k. later j s k))
-    where
-      later : (j : ℕ) (s : Record) → Entry rs j s → t s ≡ false
-      later zero s k = absurd k
-      later (suc j) s k = h (suc (suc j)) s k
-
   -- ---- one more record of a table
 
-  pub pick-skip : (rows : List ℕ) (number i : ℕ) → t (recordAt rows i) ≡ false → numbersWhere t number (records (i + 1) rows) ≡ numbersWhere t number (records i rows)
-  pick-skip rows number i h =
-      ap (numbersWhere t number) (records-more rows i)
-      ∙ numbers-append number (records i rows) (recordAt rows i ∷ [])
-      ∙ rw h (append-nil (numbersWhere t number (records i rows)))
+  pub pick-skip : (rows : List ℕ) (i : ℕ) → t (recordAt rows i) ≡ false → numbersWhere t 0 (records (i + 1) rows) ≡ numbersWhere t 0 (records i rows)
+  pick-skip rows i h =
+      ap (numbersWhere t 0) (records-more rows i)
+      ∙ numbers-append 0 (records i rows) (recordAt rows i ∷ [])
+      ∙ rw h (append-nil (numbersWhere t 0 (records i rows)))
 
-  pub pick-add : (rows : List ℕ) (number i : ℕ) → t (recordAt rows i) ≡ true
-      → numbersWhere t number (records (i + 1) rows) ≡ numbersWhere t number (records i rows) ++ ((number + i + 1) ∷ [])
-  pick-add rows number i h =
-      ap (numbersWhere t number) (records-more rows i)
-      ∙ numbers-append number (records i rows) (recordAt rows i ∷ [])
-      ∙ rw (h, length-records rows i, add-one (number + i)) refl
+  pub pick-add : (rows : List ℕ) (i : ℕ) → t (recordAt rows i) ≡ true → numbersWhere t 0 (records (i + 1) rows) ≡ numbersWhere t 0 (records i rows) ++ ((i + 1) ∷ [])
+  pick-add rows i h =
+      ap (numbersWhere t 0) (records-more rows i)
+      ∙ numbers-append 0 (records i rows) (recordAt rows i ∷ [])
+      ∙ rw (h, length-records rows i, zero-add i, add-one i) refl
 
 -- ---- CLAIM: the test decides the nodes, of any records
 
@@ -154,65 +138,13 @@ node-early k x r h = rw (lt-leb (r .first + k * r .period) (x + 1) h) refl
 pub node-reached : (k x : ℕ) (r : Record) → r .first + k * r .period ≤ x + 1 → leb x (r .last) ≡ node? anyPeriod k x r
 node-reached k x r h = rw (le-leb (r .first + k * r .period) (x + 1) h) (sym (and-true (leb x (r .last))))
 
--- ---- one more boundary
-
-module _ (k : ℕ) (w : List ℕ) (x : ℕ) where
-  -- the numbers of the nodes of the runs after the boundaries below a
-  abbrev pub nodesBefore : ℕ → List ℕ
-  nodesBefore a = numbersWhere (node? anyPeriod k x) 0 (rowsBefore w a)
-
-  pub nodes-more : (a : ℕ) → nodesBefore (a + 1) ≡ nodesBefore a ++ numbersWhere (node? anyPeriod k x) (length (rowsBefore w a)) (rowsAt w a (length w - a))
-  nodes-more a =
-      ap (numbersWhere (node? anyPeriod k x) 0) (before-more w a)
-      ∙ numbers-append (node? anyPeriod k x) 0 (rowsBefore w a) (rowsAt w a (length w - a))
-      ∙ rw (zero-add (length (rowsBefore w a))) refl
-
-  -- the numbers that were picked among the records of boundary a stand behind those of the boundaries below it
-  pub nodes-step : (rows : List Record) (out u v : List ℕ) (a number found next : ℕ) → number ≡ length (rowsBefore w a) → found ≡ length (nodesBefore a)
-      → u ≡ sets out 0 (nodesBefore a) → rows ≡ rowsAt w a (length w - a) → next ≡ found + length (numbersWhere (node? anyPeriod k x) number rows)
-      → v ≡ sets u found (numbersWhere (node? anyPeriod k x) number rows)
-      → (next ≡ length (nodesBefore (a + 1))) × (v ≡ sets out 0 (nodesBefore (a + 1)))
-  nodes-step rows out u v a number found next n f i r e s = (
-    e ∙ rw (f, n, r) (sym (ap length (nodes-more a) ∙ length-append (nodesBefore a) more)),
-    s ∙ rw (i, f, n, r) (sym (ap (sets out 0) (nodes-more a) ∙ sets-append out 0 (nodesBefore a) more ∙ ap (λ (j : ℕ). sets (sets out 0 (nodesBefore a)) j more) (zero-add (length (nodesBefore a))))),
-  )
-    where
-      more : List ℕ
-      more = numbersWhere (node? anyPeriod k x) (length (rowsBefore w a)) (rowsAt w a (length w - a))
-
-  -- a run that starts after position x has no node there
-  late-none : 2 ≤ k → (a i : ℕ) → x ≤ a → numbersWhere (node? anyPeriod k x) i (rowsAt w a (length w - a)) ≡ []
-  late-none two a i h = numbers-none (node? anyPeriod k x) i (rowsAt w a (length w - a)) (λ j r l. late j r l)
-    where
-      late : (j : ℕ) (r : Record) → Entry (rowsAt w a (length w - a)) j r → node? anyPeriod k x r ≡ false
-      late j r l =
-          let X = at-sound w a (length w - a) j r l in
-          let P = part-smallest w a (X .end) (omega (arith, X .upto, X .after)) (X .after) in
-          sym (node-early k x r (omega (arith, ap (λ (z : Record). z .first) (X .row .is), ap (λ (z : Record). z .period) (X .row .is), P .period .positive, mul-le-mul-right (r .period) two)))
-
-  nodes-late : 2 ≤ k → (d : ℕ) → nodesBefore (x + d) ≡ nodesBefore x
-  nodes-late two zero = ap nodesBefore (add-zero x)
-  nodes-late two (suc d) =
-      let e : x + suc d ≡ x + d + 1 = omega arith in
-      rw e (nodes-more (x + d) ∙ rw (late-none two (x + d) (length (rowsBefore w (x + d))) (omega arith)) (append-nil (nodesBefore (x + d))) ∙ nodes-late two d)
-
-  -- so the boundaries below x are enough
-  pub nodes-enough : 2 ≤ k → x ≤ length w → nodesBefore x ≡ nodesAt anyPeriod k w x
-  unfolding nodesAt runsOf
-  nodes-enough two h = let e : x + (length w - x) ≡ length w = omega arith in sym (nodes-late two (length w - x)) ∙ ap nodesBefore e
-
 -- there are no more nodes at a position than runs
 pub nodes-at-most : (k : ℕ) (w : List ℕ) (x : ℕ) → length (nodesAt anyPeriod k w x) ≤ length (runsOf w)
 unfolding nodesAt
 nodes-at-most k w x = numbers-at-most (node? anyPeriod k x) 0 (runsOf w)
 
-pub nodes-before-none : (k : ℕ) (w : List ℕ) (x : ℕ) → nodesBefore k w x 0 ≡ []
-nodes-before-none k w x = ap (numbersWhere (node? anyPeriod k x) 0) (before-none w)
-
-pub rows-left-none : (w t : List ℕ) → rowsLeft w 0 t ≡ t
-unfolding rowsLeft
-rows-left-none w t = refl
-
-pub rows-left-more : (w t : List ℕ) (a : ℕ) → rowsLeft w (a + 1) t ≡ sets (rowsLeft w a t) 0 (flat (rowsAt w a (length w - a)))
-unfolding rowsLeft
-rows-left-more w t a = rw (add-one a) refl
+-- the numbers that are picked among all runs, by the turn number of an edition
+pub nodes-picked : (edition k : ℕ) (w : List ℕ) (x : ℕ) (rows : List Record) → k ≡ turnsOf edition → rows ≡ runsOf w
+    → numbersWhere (node? anyPeriod k x) 0 rows ≡ nodesAt anyPeriod (turnsOf edition) w x
+unfolding nodesAt
+nodes-picked edition k w x rows e f = rw (e, f) refl

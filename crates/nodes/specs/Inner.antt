@@ -1,11 +1,10 @@
--- What the inner functions leave in the tables that they are lent.
+-- What the inner functions go by: the tests that the call made before.
 use mathlib.Core.List.{List}
-use Prim.Native.Nat.{ℕ, zero, suc, _-_}
+use Prim.Native.Nat.{ℕ, _≤_}
 use lib.ListN.{length}
-use lib.Seq.{sets}
-use Rattle.runs.specs.Table.{rowsAt, flat}
+use Rattle.answers.specs.Outcome.{limit}
+use Rattle.periods.specs.Edition.{Edition}
 
--- a buffer that was lent for the records of each boundary below a in turn
-unfoldable pub rowsLeft : List ℕ → ℕ → List ℕ → List ℕ
-rowsLeft w zero t = t
-rowsLeft w (suc a) t = sets (rowsLeft w a t) 0 (flat (rowsAt w a (length w - a)))
+-- the word is within the limit, the edition is one, and the position is one of the word's
+abbrev pub Tested : List ℕ → ℕ → ℕ → Type 0
+Tested w edition x = (length w ≤ limit) × Edition edition × (1 ≤ x) × (x ≤ length w)

@@ -1,16 +1,20 @@
 // For this crate's call: the caller shows what each function requires.
 ghost use mathlib.Core.Path.{_≡_};
-ghost use Prim.Native.Nat.{_≤_, _+_, _*_};
+ghost use Prim.Native.Nat.{_≤_, _*_};
 ghost use lib.ListN.{length};
 ghost use lib.Seq.{sets};
-ghost use Rattle.answers.specs.Outcome.{limit};
+ghost use Rattle.answers.specs.Outcome.{countedView, limit};
 ghost use Rattle.periods.specs.Period.{anyPeriod};
 ghost use Rattle.periods.specs.Edition.{Turns};
 ghost use Rattle.runs.specs.Table.{stride, records};
-ghost use Rattle.runs.specs.Inner.{unitsBefore, Scratch};
-ghost use Rattle.nodes.specs.Node.{node?, numbersWhere, nodesAt};
-ghost use Rattle.nodes.specs.Inner.{rowsLeft};
+ghost use Rattle.halves.specs.Scratch.{Scratch, shortLimit};
+ghost use Rattle.nodes.specs.Node.{node?, numbersWhere};
+ghost use Rattle.nodes.specs.Calls.{nodesOutcome, nodesTable};
+ghost use Rattle.nodes.specs.Inner.{Tested};
+use answers::Counted;
+use answers::Refusal;
 use runs::Record;
+use runs::STRIDE;
 
 // Whether a run has a white node at position x, where a repetition has so many turns at least.
 fn is_node(run: Record, turns: usize, x: usize) -> bool
@@ -24,23 +28,14 @@ fn is_node(run: Record, turns: usize, x: usize) -> bool
     x <= run.last as usize
 }
 
-// Of the first count records, the first of which is run number + 1, writes the numbers of those
-// with a white node at position x, from place at on as far as the table has places, and gives the
-// place after them.
-fn pick(
-    rows: &[u32],
-    count: usize,
-    turns: usize,
-    x: usize,
-    number: usize,
-    out: &mut [u32],
-    at: usize,
-) -> usize
-    requires { ⌜ (stride * count ≤ length (now rows)) × (count ≤ limit) × (x ≤ limit) × (number ≤ limit * limit) × (at ≤ number) × Turns turns ⌝ }
-    ensures { λ r. ⌜ r ≡ at + length (numbersWhere (node? anyPeriod turns x) number (records count (now (rows .entry)))) ⌝ }
-    ensures { λ _. ⌜ now (out .exit) ≡ sets (now (out .entry)) at (numbersWhere (node? anyPeriod turns x) number (records count (now (rows .entry)))) ⌝ }
+// Of the first count records, writes the numbers of those with a white node at position x, as far
+// as the table has places, and gives their count.
+fn pick(rows: &[u32], count: usize, turns: usize, x: usize, out: &mut [u32]) -> usize
+    requires { ⌜ (stride * count ≤ length (now rows)) × (count ≤ limit) × (x ≤ limit) × Turns turns ⌝ }
+    ensures { λ r. ⌜ r ≡ length (numbersWhere (node? anyPeriod turns x) 0 (records count (now (rows .entry)))) ⌝ }
+    ensures { λ _. ⌜ now (out .exit) ≡ sets (now (out .entry)) 0 (numbersWhere (node? anyPeriod turns x) 0 (records count (now (rows .entry)))) ⌝ }
 {
-    let mut found = at;
+    let mut found: usize = 0;
     let mut i: usize = 0;
     while i < count {
         let run = runs::inner::row(rows, i);
@@ -48,37 +43,56 @@ fn pick(
             i += 1;
             continue;
         }
-        runs::inner::store(out, found, (number + i + 1) as u32);
+        runs::inner::store(out, found, (i + 1) as u32);
         found += 1;
         i += 1;
     }
     found
 }
 
-// Writes the numbers of the runs with a white node at position x, as far as the table has places,
-// and gives their count. A run that starts after position x has none there.
-pub(crate) fn nodes_at(
+// The nodes call once its refusals 1, 12 and 6 are ruled out, over what it is lent for the runs.
+fn nodes_in(
     w: &[u8],
-    turns: usize,
+    edition: u32,
     x: usize,
-    units: &mut [u32],
+    scratch: &mut [u32],
     rows: &mut [u32],
-    out: &mut [u32],
-) -> usize
-    requires { ⌜ (x ≤ length (now w)) × Scratch (now w) (now units) × (stride * length (now w) ≤ length (now rows)) × Turns turns ⌝ }
-    ensures { λ r. ⌜ r ≡ length (nodesAt anyPeriod turns (now (w .entry)) x) ⌝ }
-    ensures { λ _. ⌜ now (out .exit) ≡ sets (now (out .entry)) 0 (nodesAt anyPeriod turns (now (w .entry)) x) ⌝ }
-    ensures { λ _. ⌜ now (units .exit) ≡ unitsBefore (now (w .entry)) x (now (units .entry)) ⌝ }
-    ensures { λ _. ⌜ now (rows .exit) ≡ rowsLeft (now (w .entry)) x (now (rows .entry)) ⌝ }
+    table: &mut [u32],
+) -> Counted
+    requires { ⌜ Tested (now w) edition x × Scratch (now w) (now scratch) × (stride * length (now w) ≤ length (now rows)) ⌝ }
+    ensures { λ r. ⌜ countedView r ≡ nodesOutcome (now (w .entry)) edition x (length (now (table .entry))) ⌝ }
+    ensures { λ _. ⌜ now (table .exit) ≡ nodesTable (now (w .entry)) edition x (now (table .entry)) ⌝ }
 {
-    let mut found: usize = 0;
-    let mut number: usize = 0;
-    let mut a: usize = 0;
-    while a < x {
-        let count = runs::inner::rows_at(w, a, units, rows, 0);
-        found = pick(rows, count, turns, x, number, out, found);
-        number += count;
-        a += 1;
+    let count = halves::inner::list(w, scratch, rows);
+    let turns = periods::turns(edition);
+    // an empty part of the table: its bounds are locals, as the borrow checker wants those of a part
+    let zero: usize = 0;
+    let found = pick(rows, count, turns, x, &mut table[zero..zero]);
+    if table.len() < found {
+        return Counted::Refused(Refusal::TooFewPlaces);
     }
-    found
+    pick(rows, count, turns, x, table);
+    Counted::Count(found as u32)
+}
+
+// The same with arrays of its own for a short word, so that it does not clear those of a long one.
+pub(crate) fn nodes_short(w: &[u8], edition: u32, x: usize, table: &mut [u32]) -> Counted
+    requires { ⌜ Tested (now w) edition x × (length (now w) ≤ shortLimit) ⌝ }
+    ensures { λ r. ⌜ countedView r ≡ nodesOutcome (now (w .entry)) edition x (length (now (table .entry))) ⌝ }
+    ensures { λ _. ⌜ now (table .exit) ≡ nodesTable (now (w .entry)) edition x (now (table .entry)) ⌝ }
+{
+    let mut scratch = [0u32; halves::ROWS * (halves::SHORT + 1)];
+    let mut rows = [0u32; STRIDE * halves::SHORT];
+    nodes_in(w, edition, x, &mut scratch, &mut rows, table)
+}
+
+// The same for every word within the limit.
+pub(crate) fn nodes_long(w: &[u8], edition: u32, x: usize, table: &mut [u32]) -> Counted
+    requires { ⌜ Tested (now w) edition x ⌝ }
+    ensures { λ r. ⌜ countedView r ≡ nodesOutcome (now (w .entry)) edition x (length (now (table .entry))) ⌝ }
+    ensures { λ _. ⌜ now (table .exit) ≡ nodesTable (now (w .entry)) edition x (now (table .entry)) ⌝ }
+{
+    let mut scratch = [0u32; halves::ROWS * (answers::LIMIT + 1)];
+    let mut rows = [0u32; STRIDE * answers::LIMIT];
+    nodes_in(w, edition, x, &mut scratch, &mut rows, table)
 }

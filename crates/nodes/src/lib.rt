@@ -8,11 +8,10 @@ mod inner;
 
 use answers::Counted;
 use answers::Refusal;
-use runs::STRIDE;
 
 // The nodes call: writes the numbers of the runs with a white node at a position from 1, rising,
 // and gives their count. Refusals: 1, 12, 6, 7; with n places for n symbols 7 never comes. Time:
-// quadratic in the word's length at most; 81 KiB of stack.
+// that of `halves::inner::list`; 129 KiB of stack.
 pub fn nodes(w: &[u8], edition: u32, position: u32, table: &mut [u32]) -> Counted
     ensures answer { λ r. ⌜ countedView r ≡ nodesOutcome (now (w .entry)) edition position (length (now (table .entry))) ⌝ }
     ensures written { λ r. ⌜ now (table .exit) ≡ nodesTable (now (w .entry)) edition position (now (table .entry)) ⌝ }
@@ -31,14 +30,8 @@ pub fn nodes(w: &[u8], edition: u32, position: u32, table: &mut [u32]) -> Counte
     if w.len() < x {
         return Counted::Refused(Refusal::BadPosition);
     }
-    let turns = periods::turns(edition);
-    let mut units = [0u32; answers::LIMIT];
-    let mut rows = [0u32; STRIDE * answers::LIMIT];
-    let zero: usize = 0;
-    let count = inner::nodes_at(w, turns, x, &mut units, &mut rows, &mut table[zero..zero]);
-    if table.len() < count {
-        return Counted::Refused(Refusal::TooFewPlaces);
+    if w.len() <= halves::SHORT {
+        return inner::nodes_short(w, edition, x, table);
     }
-    inner::nodes_at(w, turns, x, &mut units, &mut rows, table);
-    Counted::Count(count as u32)
+    inner::nodes_long(w, edition, x, table)
 }

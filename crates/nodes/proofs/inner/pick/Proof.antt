@@ -16,18 +16,18 @@ use Rattle.nodes.proofs.inner.pick.Statement.{statement}
 use Rattle.nodes.proofs.inner.pick.Tie as tie
 
 abbrev Inv-loop : tie.InvT-loop
-Inv-loop rows count turns x number out₀ at found₀ i₀ out found i =
-    (i ≤ count) × (found ≡ at + length (numbersWhere (node? anyPeriod turns x) number (records i rows)))
-    × (out ≡ sets out₀ at (numbersWhere (node? anyPeriod turns x) number (records i rows)))
+Inv-loop rows count turns x out₀ found₀ i₀ out found i =
+    (i ≤ count) × (found ≡ length (numbersWhere (node? anyPeriod turns x) 0 (records i rows)))
+    × (out ≡ sets out₀ 0 (numbersWhere (node? anyPeriod turns x) 0 (records i rows)))
 
 abbrev μ-loop : tie.MeasureT-loop
-μ-loop rows count turns x number out₀ at found₀ i₀ out found i = count - i
+μ-loop rows count turns x out₀ found₀ i₀ out found i = count - i
 
 -- no more are found than records were looked at
-found-most : (c : tie.At-loop Inv-loop μ-loop) → c .loop .found ≤ c .before .before .before .args .at + c .loop .i
+found-most : (c : tie.At-loop Inv-loop μ-loop) → c .loop .found ≤ c .loop .i
 found-most c =
     let g = c .before .before .before .args in
-    omega (arith, c .loop .inv .1, numbers-at-most (node? anyPeriod (g .turns) (g .x)) (g .number) (records (c .loop .i) (g .rows .now)), length-records (g .rows .now) (c .loop .i))
+    omega (arith, c .loop .inv .1, numbers-at-most (node? anyPeriod (g .turns) (g .x)) 0 (records (c .loop .i) (g .rows .now)), length-records (g .rows .now) (c .loop .i))
 
 -- the run that was read, and whether it has a node
 abbrev turn : tie.After-is-node Inv-loop μ-loop → tie.At-loop Inv-loop μ-loop
@@ -38,9 +38,7 @@ tested : (c : tie.After-is-node Inv-loop μ-loop)
 tested c = c .is-node .ensures ∙ ap (node? anyPeriod (turn c .before .before .before .args .turns) (turn c .before .before .before .args .x)) (c .before .row .ensures)
 
 loop-holds : tie.Need-loop-holds Inv-loop μ-loop
-loop-holds c =
-    let g = c .before .before .args in
-    (omega arith, omega (arith, ap (λ l. length (numbersWhere (node? anyPeriod (g .turns) (g .x)) (g .number) l)) (records-none (g .rows .now))), rw (records-none (g .rows .now)) refl)
+loop-holds c = let g = c .before .before .args in (omega arith, rw (records-none (g .rows .now)) refl, rw (records-none (g .rows .now)) refl)
 
 row-requires : tie.Need-row-requires Inv-loop μ-loop
 row-requires c κs = omega arith
@@ -59,14 +57,11 @@ loop-again c =
     let t = turn (c .before) in
     let g = t .before .before .before .args in
     let l = t .loop in
-    let e = pick-skip (node? anyPeriod (g .turns) (g .x)) (g .rows .now) (g .number) (l .i) (sym (tested (c .before)) ∙ not-true _ (c .if1 .taken)) in
+    let e = pick-skip (node? anyPeriod (g .turns) (g .x)) (g .rows .now) (l .i) (sym (tested (c .before)) ∙ not-true _ (c .if1 .taken)) in
     (omega arith, rw e (l .inv .1), rw e (l .inv .2))
 
 add-store : tie.Need-add-store Inv-loop μ-loop
 add-store c = omega arith
-
-add-store-2 : tie.Need-add-store-2 Inv-loop μ-loop
-add-store-2 c = omega arith
 
 cast-store : tie.Need-cast-store Inv-loop μ-loop
 cast-store c = omega arith
@@ -89,19 +84,19 @@ loop-again-2 c =
     let t = turn a in
     let g = t .before .before .before .args in
     let l = t .loop in
-    let N = numbersWhere (node? anyPeriod (g .turns) (g .x)) (g .number) (records (l .i) (g .rows .now)) in
-    let e : numbersWhere (node? anyPeriod (g .turns) (g .x)) (g .number) (records (l .i + 1) (g .rows .now)) ≡ N ++ ((g .number + l .i + 1) ∷ []) =
-    pick-add (node? anyPeriod (g .turns) (g .x)) (g .rows .now) (g .number) (l .i) (sym (tested a) ∙ not-false _ (c .before .before .before .before .if1 .left)) in (
+    let N = numbersWhere (node? anyPeriod (g .turns) (g .x)) 0 (records (l .i) (g .rows .now)) in
+    let e : numbersWhere (node? anyPeriod (g .turns) (g .x)) 0 (records (l .i + 1) (g .rows .now)) ≡ N ++ ((l .i + 1) ∷ []) =
+    pick-add (node? anyPeriod (g .turns) (g .x)) (g .rows .now) (l .i) (sym (tested a) ∙ not-false _ (c .before .before .before .before .if1 .left)) in (
       omega arith,
-      omega (arith, l .inv .1, ap length e, length-append N ((g .number + l .i + 1) ∷ [])),
-      stored-next (g .out .now) (l .out) _ (g .at) (l .found) (g .number + l .i + 1) N _ (l .inv .2) (l .inv .1) (c .before .before .store .ensures) e,
+      omega (arith, l .inv .1, ap length e, length-append N ((l .i + 1) ∷ [])),
+      stored-next (g .out .now) (l .out) _ 0 (l .found) (l .i + 1) N _ (l .inv .2) (omega (arith, l .inv .1)) (c .before .before .store .ensures) e,
     )
 
 same-length : tie.Need-same-length Inv-loop μ-loop
 same-length c =
     let g = c .before .before .before .before .args in
     let l = c .before .loop in
-    ap length (l .inv .2) ∙ length-sets (g .out .now) (g .at) (numbersWhere (node? anyPeriod (g .turns) (g .x)) (g .number) (records (l .i) (g .rows .now)))
+    ap length (l .inv .2) ∙ length-sets (g .out .now) 0 (numbersWhere (node? anyPeriod (g .turns) (g .x)) 0 (records (l .i) (g .rows .now)))
 
 returns : tie.Need-returns Inv-loop μ-loop
 returns c =
@@ -123,7 +118,6 @@ pick-spec =
     loop-less
     loop-again
     add-store
-    add-store-2
     cast-store
     store-requires
     add-found
