@@ -10,10 +10,12 @@ use lib.ListN.{length, take, drop}
 use lib.Seq.{sets, length-sets, take-at}
 use Rattle.laws.proofs.Stores.{sets-front}
 use Rattle.periods.specs.Period.{anyPeriod}
-use Rattle.runs.specs.Table.{runsOf, stride, flat}
-use Rattle.runs.proofs.Records.{records-left, length-records}
+use Rattle.runs.specs.Table.{runsOf, stride}
+use Rattle.runs.proofs.Records.{length-records}
 use Rattle.runs.proofs.Listed.{runs-listed}
 use Rattle.runs.proofs.Few.{table-at-most}
+use Rattle.halves.specs.Scratch.{listed}
+use Rattle.halves.proofs.Records.{records-listed}
 use Rattle.factors.specs.Factorization.{choiceOf, Cell, unreachable, reached}
 use Rattle.factors.proofs.Optimal.{Answers}
 use Rattle.repetitions.specs.Block.{Block}
@@ -31,10 +33,9 @@ use Rattle.report.proofs.Splits.{endsOf, text-is, text-long}
 pub records-suffice : (w table : List ℕ) (count : ℕ) → RunsListed w table count → count ≤ recordLimit
 records-suffice w table count L = omega (arith, length-records table count, ap length (L .2), table-at-most w)
 
--- the table u that the runs were stored in, for which z was lent
-pub runs-stored : (w z u : List ℕ) (count : ℕ) → length w ≤ programLimit → length z ≡ stride * recordLimit → count ≡ length (runsOf w) → u ≡ sets z 0 (flat (runsOf w)) → RunsListed w u count
-runs-stored w z u count h k e f =
-    (h, omega (arith, ap length f, length-sets z 0 (flat (runsOf w)), table-at-most w), records-left (runsOf w) z u count (omega arith) f (omega (arith, table-at-most w)))
+-- the table u that the runs were listed in, for which z was lent
+pub runs-stored : (w z u : List ℕ) (count : ℕ) → length w ≤ programLimit → length z ≡ stride * recordLimit → length u ≡ length z → count ≡ length (runsOf w) → u ≡ listed w z → RunsListed w u count
+runs-stored w z u count h k l e f = (h, omega (arith, table-at-most w), records-listed w z u count (omega arith) e f)
 
 -- ---- the text
 

@@ -21,7 +21,7 @@ const REFUSED: [u8; 10] = *b"refused,1\n";
 
 // The report of a word, the text that the bench program prints: stores it as far as there are bytes,
 // and gives the count of its bytes. Time: quadratic in the word's length at most; under 124 KiB of
-// stack.
+// stack, 16 of them for the finder of runs.
 pub fn report(w: &[u8], out: &mut [u8]) -> usize
     ensures answer { λ r. ⌜ r ≡ length (text (now (w .entry))) ⌝ }
     ensures written { λ r. ⌜ now (out .exit) ≡ sets (now (out .entry)) 0 (text (now (w .entry))) ⌝ }
@@ -30,8 +30,8 @@ pub fn report(w: &[u8], out: &mut [u8]) -> usize
     if PROGRAM_LIMIT < w.len() {
         return writers::inner::put_text(out, 0, &REFUSED);
     }
-    let mut units = [0u32; PROGRAM_LIMIT];
+    let mut scratch = [0u32; halves::ROWS * (PROGRAM_LIMIT + 1)];
     let mut table = [0u32; runs::STRIDE * finder::RECORDS];
-    let count = runs::inner::enumerate(w, &mut units, &mut table);
+    let count = halves::inner::list(w, &mut scratch, &mut table);
     inner::write_text(w, &table, count, out)
 }

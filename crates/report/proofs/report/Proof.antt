@@ -32,14 +32,14 @@ returns c =
     let e = c .before .before .put-text .ensures in
     report-answered (g .w .now) (g .out .now) _ _ (e .0 ∙ P .0, e .1 ∙ P .1)
 
-slice-aggregate-enumerate : tie.Need-slice-aggregate-enumerate
-slice-aggregate-enumerate c = search needs
+slice-aggregate-list : tie.Need-slice-aggregate-list
+slice-aggregate-list c = search needs
 
-slice-aggregate-enumerate-2 : tie.Need-slice-aggregate-enumerate-2
-slice-aggregate-enumerate-2 c = search needs
+slice-aggregate-list-2 : tie.Need-slice-aggregate-list-2
+slice-aggregate-list-2 c = search needs
 
-enumerate-requires : tie.Need-enumerate-requires
-enumerate-requires c κs = search needs
+list-requires : tie.Need-list-requires
+list-requires c κs = search needs
 
 slice-aggregate-write-text : tie.Need-slice-aggregate-write-text
 slice-aggregate-write-text c = search needs
@@ -47,8 +47,8 @@ slice-aggregate-write-text c = search needs
 write-text-requires : tie.Need-write-text-requires
 write-text-requires c κs =
     let w = c .before .before .before .before .before .before .before .before .before .before .args .w .now in
-    let s = c .before .before .before .before .enumerate in
-    runs-stored w table-lent (s .last .1 .1 .0) (s .result) (omega arith) (length-replicate {A = ℕ} (stride * recordLimit) 0) (s .ensures .0) (s .ensures .1 .0)
+    let s = c .before .before .before .before .list in
+    runs-stored w table-lent (s .last .1 .1 .0) (s .result) (omega arith) (length-replicate {A = ℕ} (stride * recordLimit) 0) (s .kept .1 .1 .0) (s .ensures .0) (s .ensures .1)
 
 same-length-2 : tie.Need-same-length-2
 same-length-2 c = search needs
@@ -66,9 +66,9 @@ report-spec =
     put-text-requires
     same-length
     returns
-    slice-aggregate-enumerate
-    slice-aggregate-enumerate-2
-    enumerate-requires
+    slice-aggregate-list
+    slice-aggregate-list-2
+    list-requires
     slice-aggregate-write-text
     write-text-requires
     same-length-2
