@@ -179,7 +179,7 @@ pub extern "C" fn cegridom_runs(
     ensures written { λ _. ⌜ now (table .exit) ≡ runsTable (now (w .entry)) (now (table .entry)) ⌝ }
     ensures meaning { λ _. ⌜ RunsMeaning (now (w .entry)) (now (table .entry)) (runsOutcome (now (w .entry)) (length (now (table .entry)))) (now (table .exit)) ⌝ }
 {
-    let answer = runs::runs(w, table);
+    let answer = run_table::runs(w, table);
     hand_over(answer, count, index)
 }
 

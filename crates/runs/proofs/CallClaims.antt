@@ -1,7 +1,7 @@
 -- What the runs call answers and writes means what the documents say, for every word and table: `runs-mean`. One law for each outcome gives both from the tests
 -- that lead to it. By the order of the tests in the definitions. And 4 × n places suffice (`runs-suffice`), since a word has fewer runs than symbols. Assumes
 -- nothing.
-use mathlib.Core.Path.{_≡_, sym, ap, _∙_}
+use mathlib.Core.Path.{_≡_, sym}
 use mathlib.Core.Logic.{_≢_}
 use mathlib.Core.List.{List, [], _∷_, _++_}
 use Prim.Native.Nat.{ℕ, _-_, _*_, _≤_, _<_}
@@ -9,15 +9,12 @@ use native.Mathlib.Omega.{arith}
 use native.Mathlib.Decide.{decLt}
 use borrow.Author.Tests.{lt-ltb, le-ltb}
 use lib.ListN.{length, drop}
-use lib.Seq.{sets}
 use Rattle.answers.specs.Outcome.{Outcome, accepted, refused, limit}
 use Rattle.answers.proofs.Claims.{refused-accepted, refused-number}
 use Rattle.runs.specs.Table.{rowsBefore, runsOf, stride, flat}
 use Rattle.runs.specs.Calls.{runsOutcome, runsTable, RunsMeaning}
 use Rattle.runs.proofs.Listed.{runs-listed}
-use Rattle.runs.proofs.Rows.{length-flat}
 use Rattle.runs.proofs.Few.{runs-at-most, table-at-most}
-use Rattle.laws.proofs.Stores.{stored-front}
 use Rattle.runs.specs.Calls as calls
 
 -- ---- the runs call; t is the table at entry, u the table at exit
@@ -45,17 +42,6 @@ module _ (w t : List ℕ) where
     simp (le-ltb limit (length w) h, le-ltb (length t) (stride * length (runsOf w)) k),
     simp (le-ltb limit (length w) h, le-ltb (length t) (stride * length (runsOf w)) k),
   )
-
-  -- the count is known, and a table that was lent for nothing is as it was
-  pub runs-too-few : (u : List ℕ) (count : ℕ) → length w ≤ limit → count ≡ length (runsOf w) → u ≡ t → length t < stride * count → RunsGive w t (refused 7 0) u
-  runs-too-few u count h e f k = let g = runs-short h (omega arith) in (g .0, f ∙ g .1)
-
-  -- the records were stored
-  pub runs-written : (u v : List ℕ) (count : ℕ) → length w ≤ limit → count ≡ length (runsOf w) → u ≡ t → stride * count ≤ length t → v ≡ sets u 0 (flat (runsOf w))
-      → RunsGive w t (accepted (count ∷ [])) v
-  runs-written u v count h e f k s =
-      let g = runs-all h (omega arith) in
-      (ap (λ (n : ℕ). accepted (n ∷ [])) e ∙ g .0, stored-front t u v (flat (runsOf w)) (stride * length (runsOf w)) f s (sym (length-flat (runsOf w))) (omega arith) ∙ g .1)
 
   -- CLAIM: what the runs call answers and writes means what the documents say
   pub runs-mean : RunsMeaning w t (runsOutcome w (length t)) (runsTable w t)

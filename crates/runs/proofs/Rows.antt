@@ -18,7 +18,7 @@ use Rattle.periods.specs.Period.{part, smallestPeriod, repetition?, anyPeriod}
 use Rattle.periods.proofs.InPlace.{placed-part}
 use Rattle.periods.proofs.PartClaims.{repetition-any}
 use Rattle.runs.specs.declared.Record.{Record}
-use Rattle.runs.specs.Table.{left?, right?, run?, rootOf, recordOf, runBetween, rowsAt, rowsBefore, runsOf, stride, numbersOf, flat}
+use Rattle.runs.specs.Table.{left?, right?, run?, rootOf, recordOf, runBetween, rowsAt, rowsBefore, stride, numbersOf, flat}
 use Rattle.runs.specs.Inner.{unitsAt, unitsBefore}
 
 -- ---- the tests of run?, in order
@@ -110,10 +110,6 @@ unfolding rowsBefore
 rows-before-at-most w zero h = omega arith
 rows-before-at-most w (suc a) h =
     omega (arith, rows-before-at-most w a h, length-append (rowsBefore w a) (rowsAt w a (length w - a)), rows-at-most w a (length w - a))
-
-pub runs-at-most : (w : List ℕ) → length w ≤ limit → length (runsOf w) ≤ limit * limit
-unfolding runsOf
-runs-at-most w h = omega (arith, rows-before-at-most w (length w) h)
 
 -- ---- stores
 

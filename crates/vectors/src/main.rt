@@ -133,7 +133,7 @@ fn named_near(name: &[u8], w: &[u8]) {
 }
 
 fn near_in(w: &[u8], table: &mut [u32]) {
-    outcome(runs::runs(w, table));
+    outcome(run_table::runs(w, table));
     if table.len() <= 64 {
         list(b"", table);
     } else {
@@ -338,7 +338,7 @@ fn runs_in(w: &[u8], places: u32, table: &mut [u32]) {
     text(b"runs,");
     text(w);
     field(places);
-    outcome(runs::runs(w, table));
+    outcome(run_table::runs(w, table));
     list(b"", table);
 }
 
@@ -347,7 +347,7 @@ fn named_runs(name: &[u8], w: &[u8]) {
     let mut table = [7u32; 5];
     text(b"runs,");
     text(name);
-    outcome(runs::runs(w, &mut table));
+    outcome(run_table::runs(w, &mut table));
     list(b"", &table);
 }
 
@@ -455,7 +455,7 @@ fn too_long() {
     let w = [97u8; 4097];
     let mut table = [7u32; 4];
     text(b"4097 equal, runs");
-    outcome(runs::runs(&w, &mut table));
+    outcome(run_table::runs(&w, &mut table));
     list(b"", &table);
     too_long_in(&w, 1);
     too_long_in(&w, 2);

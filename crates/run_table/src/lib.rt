@@ -1,0 +1,27 @@
+// The runs call. What it means stands in `runs`, which is below the finder of runs.
+ghost use mathlib.Core.Path.{_≡_};
+ghost use lib.ListN.{length};
+ghost use Rattle.answers.specs.Outcome.{countedView};
+ghost use Rattle.runs.specs.Calls.{runsOutcome, runsTable, RunsMeaning};
+
+mod inner;
+
+use answers::Counted;
+use answers::Refusal;
+
+// The runs call: writes first, last, unit and root of each run, in the order of their numbers, and
+// gives their count. Refusals: 1, 7; with 4 × n places for n symbols 7 never comes. Time: that of
+// `halves::inner::list`; 65 KiB of stack.
+pub fn runs(w: &[u8], table: &mut [u32]) -> Counted
+    ensures answer { λ r. ⌜ countedView r ≡ runsOutcome (now (w .entry)) (length (now (table .entry))) ⌝ }
+    ensures written { λ r. ⌜ now (table .exit) ≡ runsTable (now (w .entry)) (now (table .entry)) ⌝ }
+    ensures meaning { λ r. ⌜ RunsMeaning (now (w .entry)) (now (table .entry)) (countedView r) (now (table .exit)) ⌝ }
+{
+    if answers::LIMIT < w.len() {
+        return Counted::Refused(Refusal::TooLong);
+    }
+    if w.len() <= halves::SHORT {
+        return inner::runs_short(w, table);
+    }
+    inner::runs_long(w, table)
+}
