@@ -1,10 +1,10 @@
-pub mod Counts
-pub mod Found
 pub mod LookUps
 pub mod Encodings
 pub mod Paths
 pub mod PathClaims
 pub mod NumberLaws
 pub mod PathJudgeClaims
+pub mod Latest
+pub mod Noting
 pub mod Determined
 pub mod Examples

@@ -1,14 +1,12 @@
 -- Path of a split gives the run numbers of the one path that goes with the split (path-means): there is only one run that encloses a block and has its unit, so
--- the first in the table is that run. That run starts where the symbols a unit apart cease to agree to the left (run-starts). A place for every two symbols
--- suffices (path-suffice). Assumes nothing.
+-- the first in the table is that run. A place for every two symbols suffices (path-suffice). Assumes nothing.
 use mathlib.Core.Path.{_≡_, refl, sym, ap, _∙_, subst}
-use mathlib.Core.Logic.{_≢_}
 use mathlib.Core.Bool.{cond, _&&_}
 use mathlib.Core.List.{List, [], _∷_, _++_}
 use Prim.Native.Nat.{ℕ, zero, suc, _+_, _-_, _*_, _/_, _≤_, _<_}
 use native.Mathlib.Omega.{arith}
-use native.Mathlib.Decide.{decLt, ℕ-discrete}
-use borrow.Author.Tests.{lt-ltb, le-ltb, eq-eqb, ne-eqb}
+use native.Mathlib.Decide.{decLt}
+use borrow.Author.Tests.{lt-ltb, le-ltb}
 use lib.Dec.{T, leb, ltb, eqb, leb→le, le→leb, eqb→eq, eqb-refl}
 use lib.ListN.{length, drop}
 use Rattle.laws.proofs.Tests.{and-intro, and-left, and-right}
@@ -16,16 +14,13 @@ use Rattle.answers.specs.Outcome.{Outcome, accepted, refused, tableUnless}
 use Rattle.periods.specs.Period.{part, smallestPeriod, anyPeriod}
 use Rattle.periods.specs.Edition.{turnsOf}
 use Rattle.periods.proofs.Editions.{two-turns}
-use Rattle.periods.proofs.InPlace.{symbol}
 use Rattle.runs.specs.Table.{runsOf}
-use Rattle.runs.proofs.InPlace.{RunIn}
 use Rattle.factors.specs.Factorization.{Chain, Factorization, ofBlocks}
 use Rattle.repetitions.specs.Block.{Block}
 use Rattle.paths.specs.Graph.{Node, black, Path, GoTogether, encoding, runsOfPairs, endsOfPairs, Segment, Segments}
 use Rattle.repetitions.specs.Judge.{splitOutcome, SplitMeaning}
 use Rattle.paths.specs.Calls.{runNumbers, pathOutcome, pathTable, PathMeaning, refused-split, too-few, numbered}
 use Rattle.runs.specs.Number.{encloses?, firstNumber, runNumber}
-use Rattle.paths.specs.Walk.{leftEnd}
 use Rattle.paths.proofs.Encodings.{encodes, encoding-ends, block-segment, segment-one-number, segment-period}
 use Rattle.repetitions.proofs.Blocks.{edition-half}
 use Rattle.repetitions.proofs.JudgeClaims.{split-means, AcceptedSplit, accepted-split}
@@ -160,38 +155,3 @@ module _ (w : List ℕ) (edition : ℕ) (ends t : List ℕ) where
       go (accepted v) e =
           let A = accepted-split w edition ends v e in
           sym (path-promised-numbered v e (omega (arith, edition-half edition w (length w) ends (A .3))) .answer) ∙ ap accepted (sym (A .1)) ∙ e
-
--- ---- the left end of a block's run
-
-module _ (w : List ℕ) (p : ℕ) where
-  pub record LeftEnd (i a : ℕ) : Type 0 where
-    pub low : a ≤ i
-    pub agrees : (x : ℕ) → a ≤ x → x < i → symbol w x ≡ symbol w (x + p)
-    pub stops : (x : ℕ) → suc x ≡ a → symbol w x ≢ symbol w (x + p)
-
-  pub left-end-is : (i : ℕ) → LeftEnd i (leftEnd w p i)
-  unfolding leftEnd
-  left-end-is zero = record { low = omega arith; agrees = λ x a b. absurd (omega arith); stops = λ x e. absurd (omega arith) }
-  left-end-is (suc i) = go (left-end-is i) (ℕ-discrete (symbol w i) (symbol w (i + p)))
-    where
-      go : LeftEnd i (leftEnd w p i) → Dec (symbol w i ≡ symbol w (i + p)) → LeftEnd (suc i) (cond (eqb (symbol w i) (symbol w (i + p))) (leftEnd w p i) (suc i))
-      go L (yes e) =
-          rw (eq-eqb (symbol w i) (symbol w (i + p)) e)
-          record { low = omega (arith, L .low); agrees = λ x a b. at x a b (decLt x i); stops = L .stops }
-        where
-          at : (x : ℕ) → leftEnd w p i ≤ x → x < suc i → Dec (x < i) → symbol w x ≡ symbol w (x + p)
-          at x a b (yes l) = L .agrees x a l
-          at x a b (no l) = let z : x ≡ i = omega arith in rw z e
-      go L (no e) =
-          rw (ne-eqb (symbol w i) (symbol w (i + p)) e)
-          record { low = omega arith; agrees = λ x a b. absurd (omega arith); stops = λ x z. let y : x ≡ i = omega arith in rw y e }
-
-  -- a run with this period that encloses a piece of at least that length starts at the left end
-  pub run-starts : (A B i j : ℕ) → RunIn (symbol w) (length w) A B p → A ≤ i → i + p ≤ j → j ≤ B → leftEnd w p i ≡ A
-  run-starts A B i j R a h b = go (left-end-is i) (decLt (leftEnd w p i) A) (decLt A (leftEnd w p i))
-    where
-      go : LeftEnd i (leftEnd w p i) → Dec (leftEnd w p i < A) → Dec (A < leftEnd w p i) → leftEnd w p i ≡ A
-      go L (yes x) y = absurd (R .left (A - 1) (omega arith) (L .agrees (A - 1) (omega arith) (omega arith)))
-      go L (no x) (yes y) =
-          absurd (L .stops (leftEnd w p i - 1) (omega arith) (R .smallest .period .same (leftEnd w p i - 1) (omega arith) (omega (arith, L .low))))
-      go L (no x) (no y) = omega arith

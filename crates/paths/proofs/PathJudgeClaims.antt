@@ -3,12 +3,12 @@
 -- first fault is (factors/proofs/VerdictClaims.antt). Assumes nothing.
 use mathlib.Core.Path.{_≡_, refl, sym, ap, _∙_, subst}
 use mathlib.Core.Logic.{_↔_}
-use mathlib.Core.Bool.{Bool, true, false, _&&_, and-true}
-use mathlib.Core.List.{List, [], _∷_, nil≢cons}
+use mathlib.Core.Bool.{Bool, true, false, _&&_}
+use mathlib.Core.List.{List, [], _∷_}
 use Prim.Native.Nat.{ℕ, zero, suc, _+_, _-_, _*_, _/_, _%_, _≤_, _<_}
 use native.Mathlib.Omega.{arith}
 use native.Mathlib.Decide.{decLt, decLe, ℕ-discrete}
-use borrow.Author.Tests.{lt-ltb, le-ltb, le-leb, lt-leb, eq-eqb, ne-eqb}
+use borrow.Author.Tests.{lt-ltb, le-ltb, eq-eqb, ne-eqb}
 use lib.Dec.{T, leb, leb→le, le→leb}
 use lib.ListN.{length, getD}
 use Rattle.laws.proofs.Tests.{T-true, and-intro, and-left, and-right}
@@ -18,10 +18,9 @@ use Rattle.periods.specs.Period.{anyPeriod}
 use Rattle.periods.specs.Edition.{Edition, turnsOf}
 use Rattle.periods.proofs.Editions.{two-turns, test-of-edition, test-of-no-edition, edition?}
 use Rattle.runs.specs.declared.Record.{Record}
-use Rattle.runs.specs.Run.{Entry}
 use Rattle.runs.specs.Table.{runsOf}
 use Rattle.paths.specs.LookUp.{entryOf}
-use Rattle.paths.proofs.LookUps.{entry-of}
+use Rattle.paths.proofs.LookUps.{entry-first, entry-of}
 use Rattle.factors.specs.Verdict.{verdict, verdictFrom}
 use Rattle.factors.proofs.VerdictClaims.{verdict-means, verdict-low, verdict-high, verdict-block, verdict-no-block, verdict-finished, verdict-unfinished}
 use Rattle.paths.specs.Graph.{Node, black, Path, encoding, runsOfPairs, endsOfPairs, Segment, Segments}
@@ -49,13 +48,6 @@ end-given (r ∷ e ∷ ns) zero h = refl
 end-given (r ∷ e ∷ ns) (suc k) h = let f : suc k + suc k + 1 ≡ suc (suc (k + k + 1)) = omega arith in rw f (end-given ns k (omega arith))
 
 -- ---- the test of a piece
-
-entry-first : (rows : List Record) (i : ℕ) (s : Record) (rest : List Record) → entryOf rows i ≡ s ∷ rest → Entry rows i s
-unfolding entryOf
-entry-first rows zero s rest e = absurd (nil≢cons e)
-entry-first [] (suc i) s rest e = absurd (nil≢cons e)
-entry-first (x ∷ xs) (suc zero) s rest e = cc
-entry-first (x ∷ xs) (suc (suc i)) s rest e = entry-first xs (suc i) s rest e
 
 module _ (allowed : ℕ → Bool) (k : ℕ) (w : List ℕ) (r i j : ℕ) where
   in-run-sound : (rows : List Record) → entryOf (runsOf w) r ≡ rows → T (inRun? allowed k rows i j) → Segment allowed k w r i j
@@ -87,24 +79,12 @@ module _ (allowed : ℕ → Bool) (k : ℕ) (w : List ℕ) (r i j : ℕ) where
   pub segment-decides : T (inRun? allowed k (entryOf (runsOf w) r) i j) ↔ Segment allowed k w r i j
   segment-decides = (in-run-sound (entryOf (runsOf w) r) refl, in-run-complete)
 
--- the test, one comparison at a time
-module _ (turns : ℕ) (r : Record) (i j : ℕ) where
-  pub run-starts-later : i + 1 < r .first → false ≡ inRun? anyPeriod turns (r ∷ []) i j
-  run-starts-later h = simp (lt-leb (r .first) (i + 1) h)
-
-  pub run-ends-before : r .first ≤ i + 1 → r .last < j → false ≡ inRun? anyPeriod turns (r ∷ []) i j
-  run-ends-before l h = simp (le-leb (r .first) (i + 1) l, lt-leb j (r .last) h)
-
-  pub run-encloses : r .first ≤ i + 1 → j ≤ r .last → leb (i + turns * r .period) j ≡ inRun? anyPeriod turns (r ∷ []) i j
-  run-encloses l h = rw (le-leb (r .first) (i + 1) l, le-leb j (r .last) h) (sym (and-true (leb (i + turns * r .period) j)))
-
--- the test of block number k + 1, from the run that was looked up
-pub segment-test : (turns : ℕ) (w ns : List ℕ) (k i j : ℕ) (rows : List Record) → k + k + 1 < length ns → rows ≡ entryOf (runsOf w) (getD ns (k + k) 0)
-    → segment? anyPeriod turns w ns (suc k) i j ≡ inRun? anyPeriod turns rows i j
-segment-test turns w ns k i j rows h e =
+-- the test of block number k + 1, from the run number that is given for it
+pub segment-given : (turns : ℕ) (w ns : List ℕ) (k i j : ℕ) → k + k + 1 < length ns
+    → segment? anyPeriod turns w ns (suc k) i j ≡ inRun? anyPeriod turns (entryOf (runsOf w) (getD ns (k + k) 0)) i j
+segment-given turns w ns k i j h =
     let f : suc k - 1 ≡ k = omega arith in
-    ap (λ (m : ℕ). inRun? anyPeriod turns (entryOf (runsOf w) (getD (runsOfPairs ns) m 0)) i j) f
-    ∙ ap (λ (m : ℕ). inRun? anyPeriod turns (entryOf (runsOf w) m) i j) (run-given ns k h) ∙ ap (λ (s : List Record). inRun? anyPeriod turns s i j) (sym e)
+    ap (λ (m : ℕ). inRun? anyPeriod turns (entryOf (runsOf w) m) i j) (ap (λ (m : ℕ). getD (runsOfPairs ns) m 0) f ∙ run-given ns k h)
 
 -- ---- accepted exactly when the numbers are segments
 

@@ -1,18 +1,15 @@
 -- What the inner functions of path of a split go by.
-use mathlib.Core.Bool.{cond}
 use mathlib.Core.List.{List}
-use Prim.Native.Nat.{ℕ, zero, suc, _+_, _≤_}
-use lib.Dec.{eqb}
-use lib.ListN.{length, getD}
+use Prim.Native.Nat.{ℕ, _≤_}
+use lib.ListN.{length}
 use Rattle.answers.specs.Outcome.{limit}
 use Rattle.periods.specs.Period.{part, smallestPeriod, anyPeriod}
 use Rattle.factors.specs.Factorization.{Factorization, ofBlocks}
 use Rattle.repetitions.specs.Block.{Block}
 
--- how far to the left of boundary a the symbols p apart agree
-unfoldable pub leftEnd : List ℕ → ℕ → ℕ → ℕ
-leftEnd w p zero = zero
-leftEnd w p (suc a) = cond (eqb (getD w a 0) (getD w (a + p) 0)) (leftEnd w p a) (suc a)
+-- a word of at most so many symbols gets arrays of this size, a longer one arrays of the limit's
+abbrev pub short : ℕ
+short = 64
 
 -- the word is within the limit, and the ends are those of a factorization of it. Two turns are enough for a block to have a run, and in any edition it has them.
 abbrev pub Factored : List ℕ → List ℕ → Type 0

@@ -1,38 +1,37 @@
--- `paths::inner::block_units` meets its contract: its loop keeps how many blocks are taken, and that the table holds their units. Assumes nothing.
+-- `paths::inner::units_in` meets its contract: its loop keeps how many blocks are taken, and that the table holds their units. Assumes nothing.
 use mathlib.Core.Path.{_≡_, refl, sym, ap, _∙_}
 use mathlib.Core.List.{List, _++_}
 use Prim.Native.Nat.{ℕ, _-_, _≤_, _<_}
 use native.Mathlib.Omega.{arith}
-use borrow.Author.Needs.{needs}
 use lib.ListN.{length, getD, take, drop}
 use Rattle.periods.specs.Period.{part, smallestPeriod, anyPeriod}
+use Rattle.periods.proofs.InPlace.{placed-part}
 use Rattle.factors.proofs.BlockByBlock.{of-blocks-length, Taken, none-taken, next-block, next-number, one-more-taken}
 use Rattle.repetitions.specs.Block.{Block}
 use Rattle.repetitions.proofs.Blocks.{block-up, block-unit}
 use Rattle.paths.specs.Walk.{blockUnits}
 use Rattle.paths.proofs.NumberLaws.{written-long, written-more, written-all}
-use Rattle.paths.proofs.inner.block_units.Statement.{statement}
-use Rattle.paths.proofs.inner.block_units.Tie as tie
+use Rattle.paths.proofs.inner.units_in.Statement.{statement}
+use Rattle.paths.proofs.inner.units_in.Tie as tie
 
 abbrev Inv-loop : tie.InvT-loop
-Inv-loop w ends table₀ before₀ k₀ table before k =
-    Taken (Block anyPeriod 2 w) ends (length w) k before × (table ≡ take k (blockUnits w 0 ends) ++ drop k table₀)
+Inv-loop w ends units₀ table₀ before₀ k₀ units table before k = Taken (Block anyPeriod 2 w) ends (length w) k before × (table ≡ take k (blockUnits w 0 ends) ++ drop k table₀) × (length units ≡ length units₀)
 
 abbrev μ-loop : tie.MeasureT-loop
-μ-loop w ends table₀ before₀ k₀ table before k = length ends - k
+μ-loop w ends units₀ table₀ before₀ k₀ units table before k = length ends - k
 
 -- in a turn of the loop: the arguments, and the end of the next piece
 abbrev Turn : Type 0
 Turn = tie.At-loop Inv-loop μ-loop
 
 abbrev word : Turn → List ℕ
-word c = c .before .before .before .before .args .w .now
+word c = c .before .before .before .before .before .args .w .now
 
 abbrev ends-given : Turn → List ℕ
-ends-given c = c .before .before .before .before .args .ends .now
+ends-given c = c .before .before .before .before .before .args .ends .now
 
 abbrev table-lent : Turn → List ℕ
-table-lent c = c .before .before .before .before .args .table .now
+table-lent c = c .before .before .before .before .before .args .table .now
 
 abbrev end : Turn → ℕ
 end c = getD (ends-given c) (c .loop .k) 0
@@ -42,7 +41,7 @@ unit-of c a b = smallestPeriod (part (word c) a b)
 
 -- there is a place for each unit
 room : (c : Turn) → length (blockUnits (word c) 0 (ends-given c)) ≤ length (table-lent c)
-room c = omega (arith, of-blocks-length (unit-of c) 0 (ends-given c), c .before .before .before .before .pre .1)
+room c = omega (arith, of-blocks-length (unit-of c) 0 (ends-given c), c .before .before .before .before .before .pre .1)
 
 long : (c : Turn) → length (c .loop .table) ≡ length (table-lent c)
 long c =
@@ -57,7 +56,7 @@ up : (c : Turn) → c .loop .k < length (ends-given c) → c .loop .before < end
 up c h = block-up anyPeriod 2 (word c) (c .loop .before) (end c) (block c h)
 
 loop-holds : tie.Need-loop-holds Inv-loop μ-loop
-loop-holds c = (none-taken (c .before .before .before .pre .0 .1), refl)
+loop-holds c = (none-taken (c .before .before .before .before .pre .0 .1), refl, refl)
 
 mul-end : tie.Need-mul-end Inv-loop μ-loop
 mul-end c = omega arith
@@ -68,29 +67,34 @@ shared-slice-read-end c = omega arith
 cast-end : tie.Need-cast-end Inv-loop μ-loop
 cast-end c = omega (arith, block (c .before .before) (omega arith) .0)
 
-sub-smallest-period : tie.Need-sub-smallest-period Inv-loop μ-loop
-sub-smallest-period c = omega (arith, up (c .before .before) (omega arith))
+sub-units : tie.Need-sub-units Inv-loop μ-loop
+sub-units c = omega (arith, up (c .before .before) (omega arith))
 
-part-smallest-period-start : tie.Need-part-smallest-period-start Inv-loop μ-loop
-part-smallest-period-start c = omega (arith, up (c .before .before) (omega arith))
+part-units-start : tie.Need-part-units-start Inv-loop μ-loop
+part-units-start c = omega (arith, up (c .before .before) (omega arith))
 
-part-smallest-period-end : tie.Need-part-smallest-period-end Inv-loop μ-loop
-part-smallest-period-end c = omega (arith, block (c .before .before) (omega arith) .0)
+part-units-end : tie.Need-part-units-end Inv-loop μ-loop
+part-units-end c = omega (arith, block (c .before .before) (omega arith) .0)
 
-smallest-period-requires : tie.Need-smallest-period-requires Inv-loop μ-loop
-smallest-period-requires c κs = search needs
+units-requires : tie.Need-units-requires Inv-loop μ-loop
+units-requires c κs =
+    let t = c .before .before .before .before in
+    let K = block t (omega arith) in
+    let l = placed-part (word t) (t .loop .before) (end t) (K .0) .long in
+    (omega (arith, l, K .0, t .loop .inv .2), omega (arith, l, K .0))
 
 cast-table : tie.Need-cast-table Inv-loop μ-loop
 cast-table c =
-    let t = c .before .before .before .before in
+    let t = c .before .before .before .before .before .before .before in
     let K = block t (omega arith) in
-    omega (arith, block-unit anyPeriod 2 (word t) (t .loop .before) (end t) K (c .smallest-period .result) (c .smallest-period .ensures), K .0)
+    let u = c .before .before .units in
+    omega (arith, block-unit anyPeriod 2 (word t) (t .loop .before) (end t) K (u .result) (u .ensures .0), K .0)
 
 mul-table : tie.Need-mul-table Inv-loop μ-loop
 mul-table c = omega arith
 
 slice-write-table : tie.Need-slice-write-table Inv-loop μ-loop
-slice-write-table c = omega (arith, long (c .before .before .before .before))
+slice-write-table c = omega (arith, long (c .before .before .before .before .before .before .before))
 
 add-k : tie.Need-add-k Inv-loop μ-loop
 add-k c = omega arith
@@ -100,14 +104,19 @@ loop-less c = omega arith
 
 loop-again : tie.Need-loop-again Inv-loop μ-loop
 loop-again c =
-    let t = c .before .before .before .before in (
+    let t = c .before .before .before .before .before .before .before in
+    let u = c .before .before .units in (
       one-more-taken (t .loop .inv .0) (omega arith),
       written-more (table-lent t) (blockUnits (word t) 0 (ends-given t)) (room t) (t .loop .k) (t .loop .table) (t .loop .inv .1) _
-          (omega (arith, of-blocks-length (unit-of t) 0 (ends-given t))) (c .smallest-period .ensures ∙ sym (next-number (t .loop .inv .0) (omega arith) (unit-of t))),
+          (omega (arith, of-blocks-length (unit-of t) 0 (ends-given t))) (u .ensures .0 ∙ sym (next-number (t .loop .inv .0) (omega arith) (unit-of t))),
+      u .kept .1 .0 ∙ t .loop .inv .2,
     )
 
 same-length : tie.Need-same-length Inv-loop μ-loop
-same-length c = long (c .before)
+same-length c = c .before .loop .inv .2
+
+same-length-2 : tie.Need-same-length-2 Inv-loop μ-loop
+same-length-2 c = long (c .before)
 
 returns : tie.Need-returns Inv-loop μ-loop
 returns c =
@@ -116,8 +125,8 @@ returns c =
     written-all (table-lent t) (blockUnits (word t) 0 (ends-given t)) (room t) (t .loop .k) (t .loop .table) (t .loop .inv .1) (omega arith) (omega (arith, t .loop .inv .0 .within))
     ∙ ap (λ (j : ℕ). blockUnits (word t) 0 (ends-given t) ++ drop j (table-lent t)) m
 
-pub block-units-spec : {M : Type 1} → statement M
-block-units-spec =
+pub units-in-spec : {M : Type 1} → statement M
+units-in-spec =
     tie.close
     (tie.spec
     Inv-loop
@@ -126,10 +135,10 @@ block-units-spec =
     mul-end
     shared-slice-read-end
     cast-end
-    sub-smallest-period
-    part-smallest-period-start
-    part-smallest-period-end
-    smallest-period-requires
+    sub-units
+    part-units-start
+    part-units-end
+    units-requires
     cast-table
     mul-table
     slice-write-table
@@ -137,4 +146,5 @@ block-units-spec =
     loop-less
     loop-again
     same-length
+    same-length-2
     returns)
