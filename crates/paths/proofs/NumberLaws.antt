@@ -1,17 +1,40 @@
--- What the loops of path of a split over the blocks have written, and what is there still. By the laws of lists. Assumes nothing.
-use mathlib.Core.Path.{_≡_, sym, ap, ap₂, _∙_}
+-- What the loops of path of a split go by: the test of a piece by its unit; what the loops over the blocks have written, and what is there still. By the laws of
+-- lists. Assumes nothing.
+use mathlib.Core.Path.{_≡_, refl, sym, ap, ap₂, _∙_}
+use mathlib.Core.Bool.{true, false}
 use mathlib.Core.List.{List, _++_}
-use Prim.Native.Nat.{ℕ, suc, _+_, _≤_, _<_}
+use Prim.Native.Nat.{ℕ, suc, _+_, _-_, _*_, _≤_, _<_}
 use native.Mathlib.Omega.{arith}
 use native.Mathlib.Nat.{zero-add}
 use native.Mathlib.Numerals.{add-one}
+use borrow.Author.Tests.{le-leb, lt-leb}
+use lib.Dec.{leb}
 use lib.ListN.{length, getD, set, take, drop, length-append, length-take, length-drop}
 use lib.Seq.{take-all, length-take-le, take-at, drop-at, drop-cons, getD-take, getD-at, paste-suc}
-use Rattle.periods.specs.Period.{part, smallestPeriod, anyPeriod}
+use Rattle.periods.specs.Period.{part, smallestPeriod, repetition?, anyPeriod}
+use Rattle.periods.proofs.InPlace.{placed-part}
+use Rattle.periods.proofs.PartClaims.{repetition-any}
 use Rattle.factors.proofs.BlockByBlock.{of-blocks-length, Taken, next-number}
+use Rattle.factorizer.specs.Piece.{piece?}
 use Rattle.repetitions.specs.Block.{Block}
 use Rattle.paths.specs.Calls.{runNumbers}
 use Rattle.paths.specs.Walk.{blockUnits}
+
+-- ---- the test of a piece, by its unit u
+
+module _ (turns : ℕ) (w : List ℕ) (i j u : ℕ) (up : i < j) (within : j ≤ length w) (is : u ≡ smallestPeriod (part w i j)) where
+  measured : piece? (repetition? anyPeriod turns) w i j ≡ leb (turns * u) (j - i)
+  measured =
+      let n = placed-part w i j within .long in
+      rw (le-leb j (length w) within) (repetition-any turns (part w i j) (omega (arith, n)) ∙ rw (n, is) refl)
+
+  pub piece-short : j - i < turns * u → piece? (repetition? anyPeriod turns) w i j ≡ false
+  piece-short h = measured ∙ lt-leb (turns * u) (j - i) h
+
+  pub piece-long : turns * u ≤ j - i → piece? (repetition? anyPeriod turns) w i j ≡ true
+  piece-long h = measured ∙ le-leb (turns * u) (j - i) h
+
+-- ---- the table
 
 -- the first k of the numbers stand in the table u, which was t
 module _ (t ns : List ℕ) (enough : length ns ≤ length t) (k : ℕ) (u : List ℕ) (W : u ≡ take k ns ++ drop k t) where

@@ -10,9 +10,10 @@ ghost use Prim.Native.Nat.{_≤_, _<_, _+_, _*_, _%_};
 ghost use lib.Dec.{leb, eqb};
 ghost use lib.ListN.{length, getD, take, drop};
 ghost use Rattle.answers.specs.Outcome.{countedView, limit};
-ghost use Rattle.periods.specs.Period.{anyPeriod};
+ghost use Rattle.periods.specs.Period.{anyPeriod, repetition?};
 ghost use Rattle.periods.specs.Edition.{Turns};
 ghost use Rattle.factors.specs.Verdict.{verdict};
+ghost use Rattle.factorizer.specs.Judge.{pieceVerdict};
 ghost use Rattle.paths.specs.Graph.{endsOfPairs};
 ghost use Rattle.paths.specs.LookUp.{Buffers, Readable, Runs, Noted, NextLater};
 ghost use Rattle.paths.specs.Calls.{runNumbers, segment?};
@@ -20,35 +21,58 @@ ghost use Rattle.paths.specs.Walk.{short, Factored, blockUnits};
 use answers::Counted;
 use answers::Refusal;
 
-// Notes the runs that start at or before a boundary, from record number `from` on, counted from 0:
-// the number of each, from 1, takes the place of its period. Gives the record after them. What is
-// noted at a period in the end is the last of them that has it.
-fn note(rows: &[u32], count: usize, before: usize, from: usize, latest: &mut [u32]) -> usize
-    requires { ⌜ Readable (now rows) count (length (now latest)) × (before ≤ limit) × Noted (now rows) count before from (now latest) ⌝ }
-    ensures { λ r. ⌜ Noted (now (rows .entry)) count before r (now (latest .exit)) ⌝ }
-    ensures { λ r. ⌜ NextLater (now (rows .entry)) count before r ⌝ }
+fn judge_in(w: &[u8], turns: usize, ends: &[u32], units: &mut [u32]) -> Counted
+    requires { ⌜ (length (now w) ≤ limit) × (length (now w) ≤ length (now units)) × Turns turns ⌝ }
+    ensures { λ r. ⌜ countedView r ≡ pieceVerdict (repetition? anyPeriod turns) (now (w .entry)) (now (ends .entry)) ⌝ }
 {
-    let mut next = from;
-    while next < count {
-        let run = runs::inner::row(rows, next);
-        if before + 1 < run.first as usize {
-            return next;
+    let n = w.len();
+    let mut before: usize = 0;
+    let mut k: usize = 0;
+    while k < ends.len() {
+        let end = ends[k] as usize;
+        let number = (k + 1) as u32;
+        if factors::bad_end(before, end, n) {
+            return Counted::Refused(Refusal::BadEnd(number));
         }
-        next += 1;
-        latest[run.period as usize] = next as u32;
+        let unit = periods::inner::units(&w[before..end], units);
+        if end - before < turns * unit {
+            return Counted::Refused(Refusal::NotBlock(number));
+        }
+        before = end;
+        k += 1;
     }
-    next
+    if before != n {
+        return Counted::Refused(Refusal::Unfinished);
+    }
+    Counted::Count(k as u32)
 }
 
-// Writes the table of all runs and gives their count; clears the scratch, to note them in.
-fn list_runs(w: &[u8], scratch: &mut [u32], rows: &mut [u32]) -> usize
-    requires { ⌜ Buffers (now w) (now scratch) (now rows) ⌝ }
-    ensures { λ r. ⌜ Runs (now (w .entry)) (now (rows .exit)) r (length (now (scratch .exit))) ⌝ }
-    ensures { λ r. ⌜ Noted (now (rows .exit)) r 0 0 (now (scratch .exit)) ⌝ }
+fn judge_short(w: &[u8], turns: usize, ends: &[u32]) -> Counted
+    requires { ⌜ (length (now w) ≤ short) × Turns turns ⌝ }
+    ensures { λ r. ⌜ countedView r ≡ pieceVerdict (repetition? anyPeriod turns) (now (w .entry)) (now (ends .entry)) ⌝ }
 {
-    let count = halves::inner::list(w, scratch, rows);
-    factors::inner::clear(scratch);
-    count
+    let mut units = [0u32; halves::SHORT];
+    judge_in(w, turns, ends, &mut units)
+}
+
+fn judge_long(w: &[u8], turns: usize, ends: &[u32]) -> Counted
+    requires { ⌜ (length (now w) ≤ limit) × Turns turns ⌝ }
+    ensures { λ r. ⌜ countedView r ≡ pieceVerdict (repetition? anyPeriod turns) (now (w .entry)) (now (ends .entry)) ⌝ }
+{
+    let mut units = [0u32; answers::LIMIT];
+    judge_in(w, turns, ends, &mut units)
+}
+
+// The verdict on a split, as factorizer::inner::judge gives it, with an array for the units: so the
+// time is linear in the word's length. Refusals: for each end in turn 3, 4; then 5.
+pub(crate) fn judge_blocks(w: &[u8], turns: usize, ends: &[u32]) -> Counted
+    requires { ⌜ (length (now w) ≤ limit) × Turns turns ⌝ }
+    ensures { λ r. ⌜ countedView r ≡ pieceVerdict (repetition? anyPeriod turns) (now (w .entry)) (now (ends .entry)) ⌝ }
+{
+    if w.len() <= halves::SHORT {
+        return judge_short(w, turns, ends);
+    }
+    judge_long(w, turns, ends)
 }
 
 fn units_in(w: &[u8], ends: &[u32], units: &mut [u32], table: &mut [u32])
@@ -91,6 +115,37 @@ pub fn block_units(w: &[u8], ends: &[u32], table: &mut [u32])
         return;
     }
     units_long(w, ends, table);
+}
+
+// Notes the runs that start at or before a boundary, from record number `from` on, counted from 0:
+// the number of each, from 1, takes the place of its period. Gives the record after them. What is
+// noted at a period in the end is the last of them that has it.
+fn note(rows: &[u32], count: usize, before: usize, from: usize, latest: &mut [u32]) -> usize
+    requires { ⌜ Readable (now rows) count (length (now latest)) × (before ≤ limit) × Noted (now rows) count before from (now latest) ⌝ }
+    ensures { λ r. ⌜ Noted (now (rows .entry)) count before r (now (latest .exit)) ⌝ }
+    ensures { λ r. ⌜ NextLater (now (rows .entry)) count before r ⌝ }
+{
+    let mut next = from;
+    while next < count {
+        let run = runs::inner::row(rows, next);
+        if before + 1 < run.first as usize {
+            return next;
+        }
+        next += 1;
+        latest[run.period as usize] = next as u32;
+    }
+    next
+}
+
+// Writes the table of all runs and gives their count; clears the scratch, to note them in.
+fn list_runs(w: &[u8], scratch: &mut [u32], rows: &mut [u32]) -> usize
+    requires { ⌜ Buffers (now w) (now scratch) (now rows) ⌝ }
+    ensures { λ r. ⌜ Runs (now (w .entry)) (now (rows .exit)) r (length (now (scratch .exit))) ⌝ }
+    ensures { λ r. ⌜ Noted (now (rows .exit)) r 0 0 (now (scratch .exit)) ⌝ }
+{
+    let count = halves::inner::list(w, scratch, rows);
+    factors::inner::clear(scratch);
+    count
 }
 
 fn numbers_in(w: &[u8], ends: &[u32], scratch: &mut [u32], rows: &mut [u32], table: &mut [u32])

@@ -11,14 +11,20 @@ use answers::Refusal;
 
 // Path of a split: writes the run number of each block, and gives the number of blocks. With the
 // ends these are the encoding of the one path that goes with the split. Refusals: those of
-// judge a split, then 7; with n/2 places for n symbols 7 never comes. Time: quadratic in the word's
-// length at most; 97 KiB of stack.
+// judge a split, then 7; with n/2 places for n symbols 7 never comes. Time: that of the table of runs,
+// n log n with one more logarithm at most on powers, and linear; 129 KiB of stack.
 pub fn path_of_split(w: &[u8], edition: u32, ends: &[u32], table: &mut [u32]) -> Counted
     ensures answer { λ r. ⌜ countedView r ≡ pathOutcome (now (w .entry)) edition (now (ends .entry)) (length (now (table .entry))) ⌝ }
     ensures written { λ r. ⌜ now (table .exit) ≡ pathTable (now (w .entry)) edition (now (ends .entry)) (now (table .entry)) ⌝ }
     ensures meaning { λ r. ⌜ PathMeaning (now (w .entry)) edition (now (ends .entry)) (now (table .entry)) (countedView r) (now (table .exit)) ⌝ }
 {
-    let verdict = repetitions::judge_split(w, edition, ends);
+    if answers::LIMIT < w.len() {
+        return Counted::Refused(Refusal::TooLong);
+    }
+    if periods::bad_edition(edition) {
+        return Counted::Refused(Refusal::BadEdition);
+    }
+    let verdict = inner::judge_blocks(w, periods::turns(edition), ends);
     match verdict {
         Counted::Refused(r) => Counted::Refused(r),
         Counted::Count(blocks) => {
@@ -34,7 +40,8 @@ pub fn path_of_split(w: &[u8], edition: u32, ends: &[u32], table: &mut [u32]) ->
 
 // Judge a path, for each block a run number and then an end: accepted, with the number of blocks,
 // exactly when the numbers encode a path of the word's length in the repetition graph. Refusals: 1,
-// 12, 10, then as for a split. Time: quadratic in the word's length at most; 97 KiB of stack.
+// 12, 10, then as for a split. Time: that of the table of runs, n log n with one more logarithm at
+// most on powers, and linear; 145 KiB of stack.
 pub fn judge_path(w: &[u8], edition: u32, numbers: &[u32]) -> Counted
     ensures answer { λ r. ⌜ countedView r ≡ pathJudgedOutcome (now (w .entry)) edition (now (numbers .entry)) ⌝ }
     ensures meaning { λ r. ⌜ PathJudgedMeaning (now (w .entry)) edition (now (numbers .entry)) (countedView r) ⌝ }
