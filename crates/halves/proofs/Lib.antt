@@ -5,6 +5,7 @@ pub mod Recorded
 pub mod Added
 pub mod PlacesRead
 pub mod Filled
+pub mod Scans
 pub mod Ways
 pub mod Sums
 pub mod Cleared

@@ -46,6 +46,10 @@ pub record Met (w : List ℕ) (lo hi d p : ℕ) (ends : List ℕ) : Type 0 where
 pub record Done (w : List ℕ) (lo m hi p : ℕ) (ends : List ℕ) : Type 0 where
   pub found : (a b : ℕ) → T (run? w a b) → lo ≤ a → b ≤ hi → (b ≤ m) ⊎ ((m ≤ a) ⊎ (smallestPeriod (part w a b) < p)) → b ≤ getD ends a 0
 
+-- every run between lo and hi with a smaller period than p was found
+pub record Below (w : List ℕ) (lo hi p : ℕ) (ends : List ℕ) : Type 0 where
+  pub found : (a b : ℕ) → T (run? w a b) → lo ≤ a → b ≤ hi → smallestPeriod (part w a b) < p → b ≤ getD ends a 0
+
 -- every run between lo and hi was found
 pub record Solved (w : List ℕ) (lo hi : ℕ) (ends : List ℕ) : Type 0 where
   pub found : (a b : ℕ) → T (run? w a b) → lo ≤ a → b ≤ hi → b ≤ getD ends a 0

@@ -7,6 +7,7 @@ ghost use Rattle.runs.specs.Table.{runsOf, stride, flat};
 ghost use Rattle.halves.specs.Scratch.{Scratch, endsRow, nextRow, listed};
 ghost use Rattle.halves.specs.Found.{Solved};
 ghost use Rattle.halves.specs.Kept.{Starts, Roomy, Advances, sumTo, Summed};
+use crate::LEAF;
 use runs::STRIDE;
 
 // All runs between lo and hi. One level of stack for each halving.
@@ -15,7 +16,8 @@ fn solve(w: &[u8], lo: usize, hi: usize, scratch: &mut [u32], table: &mut [u32])
     ensures keeps { λ _. ⌜ Advances (now (w .entry)) (now (scratch .entry)) (now (table .entry)) (now (scratch .exit)) (now (table .exit)) ⌝ }
     ensures solved { λ _. ⌜ Solved (now (w .entry)) lo hi (endsRow (now (w .entry)) (now (scratch .exit))) ⌝ }
 {
-    if hi - lo < 2 {
+    if hi - lo <= LEAF {
+        crate::scan::scan(w, lo, hi, scratch, table);
         return;
     }
     let m = lo + (hi - lo) / 2;

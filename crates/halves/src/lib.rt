@@ -2,9 +2,13 @@
 // cross its middle.
 pub mod inner;
 mod node;
+mod scan;
 
 // The rows of the finder's scratch, each with a place for every boundary of the word.
 pub const ROWS: usize = 4;
+
+// Parts of at most so many symbols are not halved.
+const LEAF: usize = 16;
 
 // Words of at most so many symbols get local arrays of this size, others arrays of the limit's.
 pub const SHORT: usize = 64;

@@ -72,7 +72,7 @@ fn add_run(w: &[u8], a: usize, b: usize, p: usize, scratch: &mut [u32], table: &
 
 // Records the part with period p from `left` before boundary c to `right` after c + p, if it is a run
 // that was not found yet: then it ends later than all that were found after its start.
-fn attempt(
+pub(crate) fn attempt(
     w: &[u8],
     c: usize,
     p: usize,
