@@ -1,6 +1,6 @@
 -- What recording a new run leaves: the rows with its end and the next number, the table with its record. By the laws of the rows, and `keeps-new`. Assumes
 -- nothing.
-use mathlib.Core.Path.{_≡_, refl, sym, ap, ap₂, _∙_}
+use mathlib.Core.Path.{_≡_, sym, ap, ap₂, _∙_}
 use mathlib.Core.List.{List}
 use Prim.Native.Nat.{ℕ, _+_, _-_, _*_, _≤_, _<_}
 use native.Mathlib.Omega.{arith}
@@ -13,7 +13,7 @@ use Rattle.runs.specs.Table.{rootOf, stride, numbersOf}
 use Rattle.runs.proofs.InPlace.{RunIn}
 use Rattle.runs.proofs.RootClaims.{root-computed}
 use Rattle.runs.proofs.Listed.{run-tested}
-use Rattle.halves.specs.Scratch.{Scratch, prefixRow, suffixRow, endsRow, nextRow}
+use Rattle.halves.specs.Scratch.{Scratch, endsRow, nextRow}
 use Rattle.halves.specs.Found.{New, Tried}
 use Rattle.halves.specs.Kept.{newRecord, Roomy, Advances, SamePrefixes}
 use Rattle.halves.proofs.ScratchRows.{row-long, row-read, row-set, row-set-before, row-set-behind}

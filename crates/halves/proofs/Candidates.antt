@@ -1,13 +1,12 @@
 -- The mathematics of one candidate: a part with period p, at least 2p long, that cannot be lengthened. Its interval is a run; a run with the same start and an end
 -- that is not later has a period that is not greater. One law does the work, `period-extend` of the runs: a period of a long piece of a periodic part is one of the
 -- whole part; no greatest common divisor is needed. Assumes nothing.
-use mathlib.Core.Path.{_≡_, refl, sym, ap, _∙_, subst}
-use mathlib.Core.Logic.{_⊎_, inl, inr, _≢_}
-use mathlib.Core.Bool.{Bool, true, false}
+use mathlib.Core.Path.{_≡_, sym, ap, _∙_, subst}
+use mathlib.Core.Logic.{_≢_}
 use mathlib.Core.List.{List}
-use Prim.Native.Nat.{ℕ, zero, suc, _+_, _-_, _*_, _≤_, _<_}
+use Prim.Native.Nat.{ℕ, suc, _+_, _-_, _*_, _≤_, _<_}
 use native.Mathlib.Omega.{arith}
-use native.Mathlib.Decide.{decLt, ℕ-discrete}
+use native.Mathlib.Decide.{decLt}
 use lib.Dec.{T}
 use lib.ListN.{length, getD}
 use Rattle.periods.specs.Period.{part, smallestPeriod}

@@ -4,15 +4,14 @@ use mathlib.Core.Path.{_≡_, refl, sym, ap, _∙_, subst}
 use mathlib.Core.List.{List, [], _∷_, _++_}
 use Prim.Native.Nat.{ℕ, _+_, _-_, _*_, _≤_, _<_}
 use native.Mathlib.Omega.{arith}
-use lib.ListN.{length, getD, take, drop, replicate, length-drop, length-replicate}
-use lib.Seq.{sets, length-take-le}
+use lib.ListN.{length, take, drop, replicate, length-replicate}
+use lib.Seq.{sets}
 use Rattle.factors.proofs.Lent.{lent}
-use Rattle.answers.specs.Outcome.{limit}
 use Rattle.runs.specs.Table.{runsOf, stride, flat}
 use Rattle.runs.proofs.Few.{table-at-most}
 use Rattle.halves.specs.Scratch.{Scratch, rowFrom, endsRow, nextRow}
 use Rattle.halves.specs.Found.{Solved}
-use Rattle.halves.specs.Kept.{Starts, Room, Roomy, Advances, sumTo, Summed}
+use Rattle.halves.specs.Kept.{Starts, Roomy, Advances, sumTo, Summed}
 use Rattle.halves.proofs.ScratchRows.{row-long, row-lent, row-lent-before, row-lent-behind, row-lent-long}
 use Rattle.halves.proofs.Sums.{Zeros, zeros-cleared, Counts, counts-are, sum-all, starts-are, room-zeros, room-starts, table-is}
 

@@ -1,16 +1,16 @@
 -- The two places of the scratch that are read for a period give the longest stretch of that period beside the middle. By the laws of the tables and of the rows.
 -- Assumes nothing.
-use mathlib.Core.Path.{_≡_, sym, ap, _∙_}
+use mathlib.Core.Path.{_≡_, ap, _∙_}
 use mathlib.Core.List.{List}
-use Prim.Native.Nat.{ℕ, _+_, _-_, _*_, _≤_, _<_}
+use Prim.Native.Nat.{ℕ, _+_, _-_, _≤_}
 use native.Mathlib.Omega.{arith}
 use lib.ListN.{length, getD}
 use Rattle.halves.specs.Scratch.{prefixRow, suffixRow, endsRow, nextRow}
-use Rattle.halves.specs.Found.{Tables, Done, Met}
+use Rattle.halves.specs.Found.{Tables, Met}
 use Rattle.halves.specs.Kept.{Advances, SamePrefixes}
 use Rattle.halves.proofs.ScratchRows.{row-read}
 use Rattle.halves.proofs.Recorded.{keeps-none}
-use Rattle.halves.proofs.Stretches.{Stretch, above-at, below-at, met-none}
+use Rattle.halves.proofs.Stretches.{Stretch, above-at, below-at}
 
 module _ (w s : List ℕ) (lo m hi : ℕ) (l : lo ≤ m) (k : m ≤ hi) (h : hi ≤ length w) (X : Tables w lo m hi (prefixRow w s) (suffixRow w s)) where
   prefix-read : (a : ℕ) → a ≤ length w → getD (prefixRow w s) a 0 ≡ getD s a 0

@@ -1,21 +1,20 @@
 -- What is recorded: of the runs after each boundary exactly those that end at `ends` at the latest, so that a new run is appended to them and the order is that of
 -- the definition by itself. When all runs were found, the counts and the table are those of the definition. Assumes nothing.
-use mathlib.Core.Path.{_≡_, refl, sym, ap, _∙_, subst}
-use mathlib.Core.Logic.{_⊎_, inl, inr, _≢_}
+use mathlib.Core.Path.{_≡_, refl, sym, ap, _∙_}
+use mathlib.Core.Logic.{_⊎_, inl, inr}
 use mathlib.Core.Bool.{Bool, true, false}
 use mathlib.Core.List.{List, [], _∷_, _++_}
 use Prim.Native.Nat.{ℕ, zero, suc, _+_, _-_, _*_, _≤_, _<_}
 use native.Mathlib.Omega.{arith}
-use native.Mathlib.Decide.{decLt, decLe, ℕ-discrete}
+use native.Mathlib.Decide.{decLt, ℕ-discrete}
 use lib.Dec.{T}
-use lib.ListN.{length, getD, set, drop, length-append, length-set, length-drop, List·getD-append}
+use lib.ListN.{length, getD, set, drop, length-append, List·getD-append}
 use lib.Seq.{sets, length-sets, getD-set-same, getD-set-other, getD-append-add, getD-drop, ext-getD}
 use Rattle.laws.proofs.Tests.{T-true}
 use Rattle.laws.proofs.Stores.{sets-front, sets-in, sets-out}
-use Rattle.periods.specs.Period.{part, smallestPeriod}
 use Rattle.runs.specs.declared.Record.{Record}
 use Rattle.runs.specs.Table.{run?, rootOf, runBetween, rowsAt, rowsBefore, runsOf, stride, numbersOf, flat}
-use Rattle.runs.proofs.Rows.{rows-skip, rows-add, rows-at-most, count-more, flat-append, length-flat}
+use Rattle.runs.proofs.Rows.{rows-skip, rows-add, count-more, flat-append, length-flat}
 use Rattle.halves.specs.Found.{New, Solved}
 use Rattle.halves.specs.Kept.{newRecord, Starts, Placed, Kept, Room, Keeps}
 

@@ -1,6 +1,6 @@
 -- The table with the records of all runs: as it was where it has too few places, and with all of them else; n places a number suffice for n symbols. By the test
 -- of the definition, and that a word has fewer runs than symbols. Assumes nothing.
-use mathlib.Core.Path.{_≡_, refl, sym, ap, _∙_}
+use mathlib.Core.Path.{_≡_, refl, sym}
 use mathlib.Core.List.{List}
 use Prim.Native.Nat.{ℕ, _*_, _≤_, _<_}
 use native.Mathlib.Omega.{arith}

@@ -1,22 +1,21 @@
 -- The mathematics of one node [lo, hi) with middle m. The two tables give, for each period p, the longest stretch of period p around [m, m + p) and around
 -- [m - p, m); a run with period p that crosses the middle has its p symbols after it or before it, so it is one of these stretches. Assumes nothing.
-use mathlib.Core.Path.{_≡_, refl, sym, ap, _∙_, subst}
+use mathlib.Core.Path.{_≡_, sym, ap, _∙_, subst}
 use mathlib.Core.Logic.{_⊎_, inl, inr, _≢_}
-use mathlib.Core.Bool.{Bool, true, false}
+use mathlib.Core.Bool.{true, false}
 use mathlib.Core.List.{List}
-use Prim.Native.Nat.{ℕ, zero, suc, _+_, _-_, _*_, _≤_, _<_}
+use Prim.Native.Nat.{ℕ, suc, _+_, _-_, _*_, _≤_, _<_}
 use native.Mathlib.Omega.{arith}
-use native.Mathlib.Decide.{decLt, decLe, ℕ-discrete}
+use native.Mathlib.Decide.{decLt}
 use lib.Dec.{T}
 use lib.ListN.{length, getD}
 use Rattle.periods.specs.Period.{part, smallestPeriod}
-use Rattle.periods.proofs.InPlace.{PeriodIn, SmallestIn, symbol, placed-part}
+use Rattle.periods.proofs.InPlace.{symbol, placed-part}
 use Rattle.runs.specs.Table.{run?}
 use Rattle.runs.proofs.InPlace.{RunIn}
 use Rattle.runs.proofs.Listed.{run-sound}
 use Rattle.prefixes.specs.Match.{view, Match, Matched}
 use Rattle.halves.specs.Found.{Periodic, Tables, Ready, Tried, Met, Done, Solved}
-use Rattle.halves.proofs.Candidates.{run-below}
 
 -- [a, b) is the longest stretch of period p around [c, c + p) between lo and hi
 pub record Stretch (w : List ℕ) (lo hi c p a b : ℕ) : Type 0 where

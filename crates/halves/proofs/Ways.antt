@@ -1,17 +1,16 @@
 -- What each way through `attempt` gives: the candidate is too short, was found, can be lengthened, or is new. Assumes nothing.
-use mathlib.Core.Path.{_≡_, refl, sym, ap, _∙_, subst}
-use mathlib.Core.Logic.{_⊎_, inl, inr, _≢_}
+use mathlib.Core.Path.{_≡_, refl, sym, _∙_, subst}
+use mathlib.Core.Logic.{_≢_}
 use mathlib.Core.Bool.{Bool, true, false, not}
-use mathlib.Core.List.{List, [], _∷_}
+use mathlib.Core.List.{List}
 use Prim.Native.Nat.{ℕ, zero, suc, _+_, _-_, _*_, _≤_, _<_}
 use native.Mathlib.Omega.{arith}
-use native.Mathlib.Decide.{decLt, ℕ-discrete}
+use native.Mathlib.Decide.{decLt}
 use lib.Dec.{T, eqb, eqb→eq, eqb-refl, T-not}
-use lib.ListN.{length, getD, set}
-use lib.Seq.{sets, getD-set-same}
+use lib.ListN.{length, getD}
 use Rattle.periods.specs.Period.{part, smallestPeriod}
 use Rattle.periods.proofs.InPlace.{symbol}
-use Rattle.runs.specs.Table.{run?, left?, right?, stride, numbersOf}
+use Rattle.runs.specs.Table.{run?, left?, right?}
 use Rattle.runs.proofs.InPlace.{RunIn}
 use Rattle.runs.proofs.Listed.{run-sound}
 use Rattle.runs.proofs.Rows.{right-end, right-test}

@@ -2,11 +2,11 @@
 // greatest end found for each boundary, and the number of the next record for each boundary.
 ghost use mathlib.Core.Path.{_≡_};
 ghost use Prim.Native.Nat.{_+_, _-_, _*_, _≤_, _<_, _^_};
-ghost use lib.ListN.{length, getD, set};
+ghost use lib.ListN.{length};
 ghost use lib.Seq.{sets};
 ghost use Rattle.answers.specs.Outcome.{limit};
 ghost use Rattle.periods.specs.Period.{part, SmallestPeriod};
-ghost use Rattle.runs.specs.Table.{left?, right?, rootOf, stride, numbersOf};
+ghost use Rattle.runs.specs.Table.{left?, right?, stride, numbersOf};
 ghost use Rattle.halves.specs.Scratch.{Scratch, prefixRow, suffixRow, endsRow};
 ghost use Rattle.halves.specs.Found.{Periodic, Tables, Ready, New, Tried, Met, Done, Solved};
 ghost use Rattle.halves.specs.Kept.{newRecord, Roomy, Advances, SamePrefixes, SameRecords};

@@ -1,21 +1,13 @@
 // The runs of a short part: for each period in turn, every stretch of symbols that agree with those a
 // period later.
-ghost use mathlib.Core.Path.{_≡_};
-ghost use Prim.Native.Nat.{_+_, _*_, _≤_};
+ghost use Prim.Native.Nat.{_+_, _≤_};
 ghost use lib.ListN.{length};
 ghost use Rattle.halves.specs.Scratch.{endsRow};
 ghost use Rattle.halves.specs.Found.{Below, Solved};
 ghost use Rattle.halves.specs.Kept.{Roomy, Advances};
 
 // The runs with period p between lo and hi, when those with smaller periods were found.
-fn scan_period(
-    w: &[u8],
-    lo: usize,
-    hi: usize,
-    p: usize,
-    scratch: &mut [u32],
-    table: &mut [u32],
-)
+fn scan_period(w: &[u8], lo: usize, hi: usize, p: usize, scratch: &mut [u32], table: &mut [u32])
     requires { ⌜ (1 ≤ p) × (lo + p ≤ hi) × (hi ≤ length (now w)) × Below (now w) lo hi p (endsRow (now w) (now scratch)) × Roomy (now w) (now scratch) ⌝ }
     ensures keeps { λ _. ⌜ Advances (now (w .entry)) (now (scratch .entry)) (now (table .entry)) (now (scratch .exit)) (now (table .exit)) ⌝ }
     ensures below { λ _. ⌜ Below (now (w .entry)) lo hi (p + 1) (endsRow (now (w .entry)) (now (scratch .exit))) ⌝ }

@@ -18,7 +18,7 @@ pub fn write_page(w: &[u8], edition: u32, ends: &[u32], out: &mut [u8]) -> Count
     ensures written { λ r. ⌜ now (out .exit) ≡ pageTable (now (w .entry)) edition (now (ends .entry)) (now (out .entry)) ⌝ }
     ensures meaning { λ r. ⌜ PageMeaning (now (w .entry)) edition (now (ends .entry)) (now (out .entry)) (countedView r) (now (out .exit)) ⌝ }
 {
-    let verdict = repetitions::judge_split(w, edition, ends);
+    let verdict = paths::inner::judge_blocks(w, edition, ends);
     match verdict {
         Counted::Refused(r) => Counted::Refused(r),
         Counted::Count(blocks) => {

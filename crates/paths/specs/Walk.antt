@@ -7,10 +7,6 @@ use Rattle.periods.specs.Period.{part, smallestPeriod, anyPeriod}
 use Rattle.factors.specs.Factorization.{Factorization, ofBlocks}
 use Rattle.repetitions.specs.Block.{Block}
 
--- a word of at most so many symbols gets arrays of this size, a longer one arrays of the limit's
-abbrev pub short : ℕ
-short = 64
-
 -- the word is within the limit, and the ends are those of a factorization of it. Two turns are enough for a block to have a run, and in any edition it has them.
 abbrev pub Factored : List ℕ → List ℕ → Type 0
 Factored w ends = (length w ≤ limit) × Factorization (Block anyPeriod 2 w) (length w) ends

@@ -14,10 +14,12 @@ ghost use Rattle.periods.specs.Period.{anyPeriod, repetition?};
 ghost use Rattle.periods.specs.Edition.{Turns};
 ghost use Rattle.factors.specs.Verdict.{verdict};
 ghost use Rattle.factorizer.specs.Judge.{pieceVerdict};
+ghost use Rattle.repetitions.specs.Judge.{splitOutcome};
+ghost use Rattle.halves.specs.Scratch.{shortLimit};
 ghost use Rattle.paths.specs.Graph.{endsOfPairs};
 ghost use Rattle.paths.specs.LookUp.{Buffers, Readable, Runs, Noted, NextLater};
 ghost use Rattle.paths.specs.Calls.{runNumbers, segment?};
-ghost use Rattle.paths.specs.Walk.{short, Factored, blockUnits};
+ghost use Rattle.paths.specs.Walk.{Factored, blockUnits};
 use answers::Counted;
 use answers::Refusal;
 
@@ -48,7 +50,7 @@ fn judge_in(w: &[u8], turns: usize, ends: &[u32], units: &mut [u32]) -> Counted
 }
 
 fn judge_short(w: &[u8], turns: usize, ends: &[u32]) -> Counted
-    requires { ⌜ (length (now w) ≤ short) × Turns turns ⌝ }
+    requires { ⌜ (length (now w) ≤ shortLimit) × Turns turns ⌝ }
     ensures { λ r. ⌜ countedView r ≡ pieceVerdict (repetition? anyPeriod turns) (now (w .entry)) (now (ends .entry)) ⌝ }
 {
     let mut units = [0u32; halves::SHORT];
@@ -63,12 +65,18 @@ fn judge_long(w: &[u8], turns: usize, ends: &[u32]) -> Counted
     judge_in(w, turns, ends, &mut units)
 }
 
-// The verdict on a split, as factorizer::inner::judge gives it, with an array for the units: so the
-// time is linear in the word's length. Refusals: for each end in turn 3, 4; then 5.
-pub(crate) fn judge_blocks(w: &[u8], turns: usize, ends: &[u32]) -> Counted
-    requires { ⌜ (length (now w) ≤ limit) × Turns turns ⌝ }
-    ensures { λ r. ⌜ countedView r ≡ pieceVerdict (repetition? anyPeriod turns) (now (w .entry)) (now (ends .entry)) ⌝ }
+// The verdict of judge a split, with an array for the units, so that it takes time linear in the
+// word's length. Refusals: 1, 12; then for each end in turn 3, 4; then 5.
+pub fn judge_blocks(w: &[u8], edition: u32, ends: &[u32]) -> Counted
+    ensures { λ r. ⌜ countedView r ≡ splitOutcome (now (w .entry)) edition (now (ends .entry)) ⌝ }
 {
+    if answers::LIMIT < w.len() {
+        return Counted::Refused(Refusal::TooLong);
+    }
+    if periods::bad_edition(edition) {
+        return Counted::Refused(Refusal::BadEdition);
+    }
+    let turns = periods::turns(edition);
     if w.len() <= halves::SHORT {
         return judge_short(w, turns, ends);
     }
@@ -90,7 +98,7 @@ fn units_in(w: &[u8], ends: &[u32], units: &mut [u32], table: &mut [u32])
 }
 
 fn units_short(w: &[u8], ends: &[u32], table: &mut [u32])
-    requires { ⌜ Factored (now w) (now ends) × (length (now ends) ≤ length (now table)) × (length (now w) ≤ short) ⌝ }
+    requires { ⌜ Factored (now w) (now ends) × (length (now ends) ≤ length (now table)) × (length (now w) ≤ shortLimit) ⌝ }
     ensures { λ _. ⌜ now (table .exit) ≡ blockUnits (now (w .entry)) 0 (now (ends .entry)) ++ drop (length (now (ends .entry))) (now (table .entry)) ⌝ }
 {
     let mut units = [0u32; halves::SHORT];
@@ -167,7 +175,7 @@ fn numbers_in(w: &[u8], ends: &[u32], scratch: &mut [u32], rows: &mut [u32], tab
 }
 
 fn numbers_short(w: &[u8], ends: &[u32], table: &mut [u32])
-    requires { ⌜ Factored (now w) (now ends) × (length (now ends) ≤ length (now table)) × (length (now w) ≤ short) ⌝ }
+    requires { ⌜ Factored (now w) (now ends) × (length (now ends) ≤ length (now table)) × (length (now w) ≤ shortLimit) ⌝ }
     requires { ⌜ take (length (now ends)) (now table) ≡ blockUnits (now w) 0 (now ends) ⌝ }
     ensures { λ _. ⌜ now (table .exit) ≡ runNumbers (now (w .entry)) 0 (now (ends .entry)) ++ drop (length (now (ends .entry))) (now (table .entry)) ⌝ }
 {
@@ -256,7 +264,7 @@ fn follow_in(
 }
 
 fn follow_short(w: &[u8], turns: usize, numbers: &[u32]) -> Counted
-    requires { ⌜ (length (now w) ≤ short) × (length (now numbers) % 2 ≡ 0) × Turns turns ⌝ }
+    requires { ⌜ (length (now w) ≤ shortLimit) × (length (now numbers) % 2 ≡ 0) × Turns turns ⌝ }
     ensures { λ r. ⌜ countedView r ≡ verdict (segment? anyPeriod turns (now (w .entry)) (now (numbers .entry))) (length (now (w .entry))) (endsOfPairs (now (numbers .entry))) ⌝ }
 {
     let mut scratch = [0u32; halves::ROWS * (halves::SHORT + 1)];

@@ -18,13 +18,7 @@ pub fn path_of_split(w: &[u8], edition: u32, ends: &[u32], table: &mut [u32]) ->
     ensures written { λ r. ⌜ now (table .exit) ≡ pathTable (now (w .entry)) edition (now (ends .entry)) (now (table .entry)) ⌝ }
     ensures meaning { λ r. ⌜ PathMeaning (now (w .entry)) edition (now (ends .entry)) (now (table .entry)) (countedView r) (now (table .exit)) ⌝ }
 {
-    if answers::LIMIT < w.len() {
-        return Counted::Refused(Refusal::TooLong);
-    }
-    if periods::bad_edition(edition) {
-        return Counted::Refused(Refusal::BadEdition);
-    }
-    let verdict = inner::judge_blocks(w, periods::turns(edition), ends);
+    let verdict = inner::judge_blocks(w, edition, ends);
     match verdict {
         Counted::Refused(r) => Counted::Refused(r),
         Counted::Count(blocks) => {

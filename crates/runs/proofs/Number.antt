@@ -1,10 +1,10 @@
 -- The number of the first record that passes a test, for any test: it is that of a record that passes, and 0 only where none does; how a loop over a table
 -- finds it. Then the number of the run that encloses a part twice its unit or longer: there is such a run (`one-run`), so the number is not 0; it is
 -- at most the count of the runs. And the numbers of a block, by its unit and its run number. By induction on the records. Assumes nothing.
-use mathlib.Core.Path.{_≡_, refl, sym, ap, _∙_, subst}
+use mathlib.Core.Path.{_≡_, refl, sym, ap, subst}
 use mathlib.Core.Logic.{_≢_}
 use mathlib.Core.Bool.{Bool, true, false, cond, _&&_}
-use mathlib.Core.List.{List, [], _∷_, _++_}
+use mathlib.Core.List.{List, [], _∷_}
 use Prim.Native.Nat.{ℕ, zero, suc, _+_, _-_, _*_, _/_, _%_, _≤_, _<_}
 use native.Mathlib.Omega.{arith}
 use native.Mathlib.Numerals.{add-one}
@@ -15,11 +15,10 @@ use Rattle.periods.specs.Period.{part, smallestPeriod}
 use Rattle.periods.proofs.Claims.{smallest-period-is}
 use Rattle.runs.specs.declared.Record.{Record}
 use Rattle.runs.specs.Run.{Entry}
-use Rattle.runs.specs.Table.{runsOf, recordAt, records}
+use Rattle.runs.specs.Table.{runsOf}
 use Rattle.runs.specs.Number.{encloses?, firstNumber, runNumber, blockNumbers}
 use Rattle.runs.proofs.Entries.{no-entry}
 use Rattle.runs.proofs.Listed.{runs-listed}
-use Rattle.runs.proofs.Records.{records-more, length-records, records-split}
 use Rattle.runs.proofs.InPlace.{one-run}
 use Rattle.runs.proofs.Rows.{part-long}
 
@@ -83,31 +82,6 @@ module _ (t : Record → Bool) where
       go true i h = omega arith
       go false zero h = omega arith
       go false (suc i) h = omega (arith, next-suc i)
-
-  -- ---- one record after the other
-
-  -- one more record that does not pass
-  first-not-yet : (rs : List Record) (r : Record) → firstNumber t rs ≡ 0 → t r ≡ false → firstNumber t (rs ++ (r ∷ [])) ≡ 0
-  unfolding firstNumber
-  first-not-yet [] r e h = rw h refl
-  first-not-yet (x ∷ xs) r e h = let k = none-passes x xs e in rw (k .0, first-not-yet xs r (k .1) h) refl
-
-  -- the first that passes
-  first-found : (rs : List Record) (r : Record) (more : List Record) → firstNumber t rs ≡ 0 → t r ≡ true → firstNumber t (rs ++ (r ∷ more)) ≡ suc (length rs)
-  unfolding firstNumber
-  first-found [] r more e h = rw h refl
-  first-found (x ∷ xs) r more e h = let k = none-passes x xs e in rw (k .0, first-found xs r more (k .1) h) (next-suc (length xs))
-
-  -- the same in a table
-  pub table-not-yet : (rows : List ℕ) (i : ℕ) → firstNumber t (records i rows) ≡ 0 → t (recordAt rows i) ≡ false → firstNumber t (records (i + 1) rows) ≡ 0
-  table-not-yet rows i e h = ap (firstNumber t) (records-more rows i) ∙ first-not-yet (records i rows) (recordAt rows i) e h
-
-  pub table-found : (rows : List ℕ) (i c : ℕ) → i < c → firstNumber t (records i rows) ≡ 0 → t (recordAt rows i) ≡ true → i + 1 ≡ firstNumber t (records c rows)
-  table-found rows i c l e h = go (records-split rows i c l)
-    where
-      go : (more : List Record) × (records c rows ≡ records i rows ++ (recordAt rows i ∷ more)) → i + 1 ≡ firstNumber t (records c rows)
-      go (more, k) =
-          add-one i ∙ ap suc (sym (length-records rows i)) ∙ sym (first-found (records i rows) (recordAt rows i) more e h) ∙ ap (firstNumber t) (sym k)
 
 -- ---- the run that encloses a part
 

@@ -4,7 +4,6 @@ use mathlib.Core.List.{List, [], _∷_, _++_, append-assoc}
 use Prim.Native.Nat.{ℕ, zero, suc, _+_, _*_, _≤_, _<_}
 use native.Mathlib.Omega.{arith}
 use native.Mathlib.Numerals.{add-one}
-use native.Mathlib.Nat.{zero-add}
 use native.Mathlib.Decide.{decLt}
 use lib.ListN.{length, getD, drop, length-append}
 use lib.Seq.{sets}
@@ -48,10 +47,6 @@ records-flat (r ∷ rs) t =
 pub records-stored : (rs : List Record) (t : List ℕ) → stride * length rs ≤ length t → records (length rs) (sets t 0 (flat rs)) ≡ rs
 records-stored rs t h =
     ap (records (length rs)) (sets-front t (flat rs) (omega (arith, length-flat rs))) ∙ records-flat rs (drop (length (flat rs)) t)
-
--- the same of a call that stored so many
-pub records-left : (rs : List Record) (t u : List ℕ) (c : ℕ) → c ≡ 0 + length rs → u ≡ sets t 0 (flat rs) → stride * length rs ≤ length t → records c u ≡ rs
-records-left rs t u c e f h = rw (e, zero-add (length rs), f) (records-stored rs t h)
 
 -- the records up to and after one of them
 pub records-split : (t : List ℕ) (i c : ℕ) → i < c → (more : List Record) × (records c t ≡ records i t ++ (recordAt t i ∷ more))

@@ -2,4 +2,3 @@ pub mod Run
 pub mod Table
 pub mod Number
 pub mod Calls
-pub mod Inner

@@ -5,9 +5,8 @@ ghost use Prim.Native.Nat.{_≤_, _<_, _+_, _-_, _*_, _/_, _%_, _^_};
 ghost use lib.ListN.{length, set};
 ghost use lib.Seq.{sets};
 ghost use Rattle.answers.specs.Outcome.{limit};
-ghost use Rattle.periods.specs.Period.{part, SmallestPeriod, smallestPeriod};
-ghost use Rattle.runs.specs.Table.{run?, rootOf, rowsAt, runsOf, stride, numbersOf, flat, recordAt};
-ghost use Rattle.runs.specs.Inner.{unitsAt, unitsBefore, Scratch};
+ghost use Rattle.periods.specs.Period.{part, SmallestPeriod};
+ghost use Rattle.runs.specs.Table.{rootOf, stride, numbersOf, recordAt};
 use crate::Record;
 use crate::STRIDE;
 
@@ -73,25 +72,6 @@ pub fn block_numbers(
     ]
 }
 
-// Whether the part between the boundaries a and b, whose smallest period is p, is a run.
-fn is_run(w: &[u8], a: usize, b: usize, p: usize) -> bool
-    requires { ⌜ (a < b) × (b ≤ length (now w)) × (length (now w) ≤ limit) × (p ≡ smallestPeriod (part (now w) a b)) ⌝ }
-    ensures { λ r. ⌜ r ≡ run? (now (w .entry)) a b ⌝ }
-{
-    if b - a < 2 * p {
-        return false;
-    }
-    if 0 < a {
-        if w[a - 1] == w[a - 1 + p] {
-            return false;
-        }
-    }
-    if b == w.len() {
-        return true;
-    }
-    w[b] != w[b - p]
-}
-
 // The root of a run that starts after boundary a and has period p. Of the starts before rival only
 // best can be it; from both on, `same` symbols agree. Where the next two symbols differ, the start
 // with the greater one comes later, and so do the next `same` starts beside those as far after the
@@ -125,52 +105,4 @@ pub fn root(w: &[u8], a: usize, p: usize) -> usize
         same = 0;
     }
     best + 1
-}
-
-// Writes the records of the runs that start after boundary a, from number at on, as far as the
-// table has places, and gives the number after them. Time linear in what follows the boundary.
-pub fn rows_at(w: &[u8], a: usize, units: &mut [u32], table: &mut [u32], at: usize) -> usize
-    requires { ⌜ (a < length (now w)) × Scratch (now w) (now units) × (at ≤ a * limit) ⌝ }
-    ensures { λ r. ⌜ r ≡ at + length (rowsAt (now (w .entry)) a (length (now (w .entry)) - a)) ⌝ }
-    ensures { λ _. ⌜ now (table .exit) ≡ sets (now (table .entry)) (stride * at) (flat (rowsAt (now (w .entry)) a (length (now (w .entry)) - a))) ⌝ }
-    ensures { λ _. ⌜ now (units .exit) ≡ unitsAt (now (w .entry)) a (now (units .entry)) ⌝ }
-{
-    let n = w.len();
-    periods::inner::units(&w[a..n], units);
-    let mut count = at;
-    let mut b = a + 1;
-    while b <= n {
-        let p = units[b - a - 1] as usize;
-        if !is_run(w, a, b, p) {
-            b += 1;
-            continue;
-        }
-        let run = Record {
-            first: (a + 1) as u32,
-            last: b as u32,
-            period: p as u32,
-            root: root(w, a, p) as u32,
-        };
-        put(table, count, run);
-        count += 1;
-        b += 1;
-    }
-    count
-}
-
-// Writes the records of all runs, as far as the table has places, and gives their count.
-pub fn enumerate(w: &[u8], units: &mut [u32], table: &mut [u32]) -> usize
-    requires { ⌜ Scratch (now w) (now units) ⌝ }
-    ensures { λ r. ⌜ r ≡ length (runsOf (now (w .entry))) ⌝ }
-    ensures { λ _. ⌜ now (table .exit) ≡ sets (now (table .entry)) 0 (flat (runsOf (now (w .entry)))) ⌝ }
-    ensures { λ _. ⌜ now (units .exit) ≡ unitsBefore (now (w .entry)) (length (now (w .entry))) (now (units .entry)) ⌝ }
-{
-    let n = w.len();
-    let mut count: usize = 0;
-    let mut a: usize = 0;
-    while a < n {
-        count = rows_at(w, a, units, table, count);
-        a += 1;
-    }
-    count
 }

@@ -34,8 +34,8 @@ module _ (w : List ℕ) (edition : ℕ) (ends : List ℕ) (blocks : ℕ) (e : ac
   size : length (page w ends) ≡ lineBytes * blocks
   size = bytes w edition ends within (accepted-split w edition ends (blocks ∷ []) e .3) ∙ ap (λ (n : ℕ). lineBytes * n) (sym counted)
 
-judge-split-requires : tie.Need-judge-split-requires
-judge-split-requires c κs = search needs
+judge-blocks-requires : tie.Need-judge-blocks-requires
+judge-blocks-requires c κs = search needs
 
 enum-known-verdict : tie.Need-enum-known-verdict
 enum-known-verdict c = search needs
@@ -52,21 +52,21 @@ mul-bytes c = search needs
 returns : tie.Need-returns
 returns c =
     let g = c .before .before .before .before .before .before .before .before .args in
-    let e = ap countedView (sym (c .before .before .verdict2 .given .1)) ∙ c .before .before .before .before .judge-split .ensures .0 in
+    let e = ap countedView (sym (c .before .before .verdict2 .given .1)) ∙ c .before .before .before .before .judge-blocks .ensures in
     page-answered (g .w .now) (g .edition) (g .ends .now) (g .out .now) _ _
     (page-few (g .w .now) (g .edition) (g .ends .now) (g .out .now) _ e (omega (arith, size (g .w .now) (g .edition) (g .ends .now) _ e, c .if1 .taken)))
 
 write-lines-requires : tie.Need-write-lines-requires
 write-lines-requires c κs =
     let g = c .before .before .before .before .before .before .before .before .before .args in
-    let e = ap countedView (sym (c .before .before .before .verdict2 .given .1)) ∙ c .before .before .before .before .before .judge-split .ensures .0 in
+    let e = ap countedView (sym (c .before .before .before .verdict2 .given .1)) ∙ c .before .before .before .before .before .judge-blocks .ensures in
     let S = split (g .w .now) (g .edition) (g .ends .now) _ e in
     ((within (g .w .now) (g .edition) (g .ends .now) _ e, S), omega (arith, counted (g .w .now) (g .edition) (g .ends .now) _ e, c .before .if1 .left))
 
 cast-t16 : tie.Need-cast-t16
 cast-t16 c =
     let g = c .before .before .before .before .before .before .before .before .before .before .before .before .args in
-    let e = ap countedView (sym (c .before .before .before .before .before .before .verdict2 .given .1)) ∙ c .before .before .before .before .before .before .before .before .judge-split .ensures .0 in
+    let e = ap countedView (sym (c .before .before .before .before .before .before .verdict2 .given .1)) ∙ c .before .before .before .before .before .before .before .before .judge-blocks .ensures in
     let few = blocks-half anyPeriod 2 (g .w .now) (omega arith) (length (g .w .now)) (g .ends .now) (split (g .w .now) (g .edition) (g .ends .now) _ e) in
     omega (arith, few, counted (g .w .now) (g .edition) (g .ends .now) _ e, within (g .w .now) (g .edition) (g .ends .now) _ e)
 
@@ -74,7 +74,7 @@ returns-2 : tie.Need-returns-2
 returns-2 c =
     let g = c .before .before .before .before .before .before .before .args in
     page-answered (g .w .now) (g .edition) (g .ends .now) (g .out .now) _ _
-    (page-refused (g .w .now) (g .edition) (g .ends .now) (g .out .now) _ _ (ap countedView (sym (c .before .verdict .given .1)) ∙ c .before .before .before .judge-split .ensures .0))
+    (page-refused (g .w .now) (g .edition) (g .ends .now) (g .out .now) _ _ (ap countedView (sym (c .before .verdict .given .1)) ∙ c .before .before .before .judge-blocks .ensures))
 
 same-length : tie.Need-same-length
 same-length c = search needs
@@ -82,7 +82,7 @@ same-length c = search needs
 returns-3 : tie.Need-returns-3
 returns-3 c =
     let g = c .before .before .before .before .before .before .before .before .before .before .before .before .args in
-    let e = ap countedView (sym (c .before .before .before .before .before .before .verdict2 .given .1)) ∙ c .before .before .before .before .before .before .before .before .judge-split .ensures .0 in
+    let e = ap countedView (sym (c .before .before .before .before .before .before .verdict2 .given .1)) ∙ c .before .before .before .before .before .before .before .before .judge-blocks .ensures in
     let n = size (g .w .now) (g .edition) (g .ends .now) _ e in
     let room : length (page (g .w .now) (g .ends .now)) ≤ length (g .out .now) = omega (arith, n, c .before .before .before .before .if1 .left) in
     let P = page-written (g .w .now) (g .edition) (g .ends .now) (g .out .now) _ e room in
@@ -93,7 +93,7 @@ pub write-page-spec : {M : Type 1} → statement M
 write-page-spec =
     tie.close
     (tie.spec
-    judge-split-requires
+    judge-blocks-requires
     enum-known-verdict
     enum-known-verdict-2
     cast-bytes

@@ -1,10 +1,8 @@
 -- `halves::inner::solve` meets its contract: a short part is scanned; of a longer one the two halves are solved, then the runs across the middle are found.
 -- Assumes nothing.
-use mathlib.Core.Path.{_≡_, _∙_}
-use Prim.Native.Nat.{ℕ, _+_, _-_, _*_, _<_, _≤_}
+use mathlib.Core.Path.{_∙_}
+use Prim.Native.Nat.{ℕ, _+_, _-_, _<_}
 use native.Mathlib.Omega.{arith}
-use lib.ListN.{length}
-use Rattle.halves.specs.Scratch.{endsRow, nextRow}
 use Rattle.halves.proofs.Recorded.{keeps-then}
 use Rattle.halves.proofs.Stretches.{solved-grow}
 use borrow.Fn.Kinds.{In}
@@ -120,8 +118,7 @@ solve-solve-requires-2 : (t : ℕ) → solve-lts.Need-solve-requires-2 (
 ) (solve-at t) solve.Post
 solve-solve-requires-2 t c κs =
     let q = c .before .before .before .before .before .before .before .before .before .before .before .before .before .pre in
-    let x = c .before .before .before .before .before .before .solve in
-    (
+    let x = c .before .before .before .before .before .before .solve in (
       omega (arith, q .0, q .1 .0, c .before .before .before .before .before .before .before .before .before .if1 .left),
       (omega (arith, q .1 .0), q .1 .1, ((q .1 .2 .0 .0, omega (arith, q .1 .2 .0 .1, x .kept .1 .1 .1 .0)), x .ensures .0 .room (q .1 .2 .1))),
     )
@@ -137,8 +134,7 @@ solve-node-requires : (t : ℕ) → solve-lts.Need-node-requires (
 solve-node-requires t c κs =
     let q = c .before .before .before .before .before .before .before .before .before .before .before .before .before .before .before .before .before .before .before .before .pre .1 in
     let x = c .before .before .before .before .before .before .before .before .before .before .before .before .before .solve in
-    let y = c .before .before .before .before .before .before .solve2 in
-    (
+    let y = c .before .before .before .before .before .before .solve2 in (
       omega arith,
       omega (arith, q .0),
       q .1,

@@ -1,9 +1,7 @@
 -- `halves::inner::count` meets its contract: when all runs were found, the counts are those of the runs after each boundary. Assumes nothing.
-use mathlib.Core.Path.{_≡_, _∙_}
-use mathlib.Core.List.{List}
-use Prim.Native.Nat.{ℕ, _+_, _-_, _*_, _≤_, _<_}
+use mathlib.Core.Path.{_∙_}
+use Prim.Native.Nat.{_-_}
 use native.Mathlib.Omega.{arith}
-use lib.ListN.{length}
 use Rattle.halves.proofs.Cleared.{no-places, count-roomy, sums-asked, count-is, starts-left}
 use borrow.Author.Needs.{needs}
 use Rattle.halves.proofs.inner.count.Statement.{statement}

@@ -1,9 +1,6 @@
 -- `halves::inner::place` meets its contract: when all runs were found, the table is that of the definition. Assumes nothing.
-use mathlib.Core.Path.{_≡_, _∙_}
-use mathlib.Core.List.{List}
-use Prim.Native.Nat.{ℕ, _+_, _-_, _*_, _≤_, _<_}
+use Prim.Native.Nat.{_-_}
 use native.Mathlib.Omega.{arith}
-use lib.ListN.{length}
 use Rattle.halves.proofs.Cleared.{place-roomy, place-is}
 use borrow.Author.Needs.{needs}
 use Rattle.halves.proofs.inner.place.Statement.{statement}

@@ -1,7 +1,7 @@
 -- `halves::inner::starts` meets its contract: its loop keeps that the first a numbers were replaced by sums, and the sum of them. Assumes nothing.
 -- `halves::starts` meets its contract. Assumes nothing.
-use mathlib.Core.Path.{_≡_, refl, sym, _∙_}
-use Prim.Native.Nat.{ℕ, _+_, _-_, _<_, _≤_}
+use mathlib.Core.Path.{_≡_, refl, _∙_}
+use Prim.Native.Nat.{_-_, _≤_}
 use native.Mathlib.Omega.{arith}
 use lib.ListN.{length, length-set}
 use Rattle.halves.specs.Kept.{sumTo, Summed}

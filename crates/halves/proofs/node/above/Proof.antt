@@ -1,12 +1,8 @@
 -- `halves::node::above` meets its contract: the two places that it reads give the longest stretch of period p after the middle. Assumes nothing.
-use mathlib.Core.Path.{_≡_, subst}
-use mathlib.Core.Logic.{inl, inr}
-use mathlib.Core.List.{List}
-use Prim.Native.Nat.{ℕ, _+_, _-_, _*_, _<_, _≤_}
+use mathlib.Core.Logic.{inl}
+use Prim.Native.Nat.{_+_, _-_}
 use native.Mathlib.Omega.{arith}
-use lib.ListN.{length, getD}
-use Rattle.halves.specs.Scratch.{endsRow}
-use Rattle.halves.specs.Found.{Met}
+use lib.ListN.{length}
 use Rattle.halves.proofs.Stretches.{stretch-ready, stretch-met, met-none}
 use Rattle.halves.proofs.PlacesRead.{above-read, untried}
 use borrow.Author.Needs.{needs}

@@ -1,8 +1,7 @@
 -- `halves::node::add_run` meets its contract: the rows and the table are those of proofs/Added.antt. Assumes nothing.
-use mathlib.Core.Path.{_≡_, _∙_}
-use Prim.Native.Nat.{ℕ, _+_, _*_, _<_, _≤_}
+use Prim.Native.Nat.{_+_, _*_}
 use native.Mathlib.Omega.{arith}
-use lib.ListN.{length, getD, set, length-set}
+use lib.ListN.{length, length-set}
 use Rattle.runs.proofs.RootClaims.{two-turns}
 use Rattle.halves.proofs.Added.{new-run, new-start, next-small, added-same, added-keeps, added-tried}
 use borrow.Author.Needs.{needs}

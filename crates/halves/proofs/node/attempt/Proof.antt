@@ -1,9 +1,9 @@
 -- `halves::node::attempt` meets its contract: each way through it is one of proofs/Ways.antt. Assumes nothing.
-use mathlib.Core.Path.{_≡_, sym, _∙_}
-use Prim.Native.Nat.{ℕ, _+_, _-_, _*_, _<_, _≤_}
+use mathlib.Core.Path.{sym, _∙_}
+use Prim.Native.Nat.{_+_, _-_, _*_}
 use native.Mathlib.Omega.{arith}
 use borrow.Author.Tests.{not-true, not-false}
-use lib.ListN.{length, getD}
+use lib.ListN.{length}
 use Rattle.halves.proofs.Ways.{way-short, way-old, way-left, way-right, way-new}
 use borrow.Author.Needs.{needs}
 use Rattle.halves.proofs.node.attempt.Statement.{statement}

@@ -1,10 +1,9 @@
 -- `halves::node::below` meets its contract: the two places that it reads give the longest stretch of period p before the middle. Assumes nothing.
-use mathlib.Core.Path.{_≡_, subst}
-use mathlib.Core.Logic.{inl, inr}
-use mathlib.Core.List.{List}
-use Prim.Native.Nat.{ℕ, _+_, _-_, _*_, _<_, _≤_}
+use mathlib.Core.Path.{subst}
+use mathlib.Core.Logic.{inr}
+use Prim.Native.Nat.{ℕ, _+_, _-_}
 use native.Mathlib.Omega.{arith}
-use lib.ListN.{length, getD}
+use lib.ListN.{length}
 use Rattle.halves.specs.Scratch.{endsRow}
 use Rattle.halves.specs.Found.{Met}
 use Rattle.halves.proofs.Stretches.{stretch-ready, stretch-met, met-none}

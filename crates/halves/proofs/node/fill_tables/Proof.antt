@@ -1,10 +1,6 @@
 -- `halves::node::fill_tables` meets its contract: each row is the one that was lent for it. Assumes nothing.
-use mathlib.Core.Path.{_≡_, sym, _∙_, subst}
-use mathlib.Core.List.{List}
-use Prim.Native.Nat.{ℕ, _+_, _-_, _*_, _≤_}
+use Prim.Native.Nat.{_-_}
 use native.Mathlib.Omega.{arith}
-use lib.ListN.{length}
-use Rattle.factors.proofs.Lent.{lent}
 use Rattle.halves.proofs.Filled.{tables-filled}
 use borrow.Author.Needs.{needs}
 use Rattle.halves.proofs.node.fill_tables.Statement.{statement}

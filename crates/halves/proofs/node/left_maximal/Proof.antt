@@ -1,7 +1,4 @@
 -- `halves::node::left_maximal` meets its contract. Assumes nothing.
-use mathlib.Core.Path.{sym}
-use Prim.Native.Nat.{_<_}
-use native.Mathlib.Omega.{arith}
 use Rattle.halves.proofs.Ways.{left-test}
 use borrow.Author.Needs.{needs}
 use Rattle.halves.proofs.node.left_maximal.Statement.{statement}

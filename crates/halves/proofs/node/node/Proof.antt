@@ -1,14 +1,13 @@
 -- `halves::node::node` meets its contract: before the turn for p, every run between lo and hi that does not cross m or has a smaller period was found. Assumes
 -- nothing.
-use mathlib.Core.Path.{_≡_, refl, sym, _∙_, subst}
-use mathlib.Core.List.{List}
-use Prim.Native.Nat.{ℕ, _+_, _-_, _*_, _<_, _≤_}
+use mathlib.Core.Path.{_≡_, refl, _∙_}
+use Prim.Native.Nat.{_+_, _-_, _≤_}
 use native.Mathlib.Omega.{arith}
 use borrow.Author.Needs.{needs}
-use lib.ListN.{length, getD}
+use lib.ListN.{length}
 use Rattle.halves.specs.Scratch.{prefixRow, suffixRow, endsRow, nextRow}
-use Rattle.halves.specs.Found.{Tables, Done, Solved}
-use Rattle.halves.specs.Kept.{Room, Advances, SamePrefixes, SameRecords}
+use Rattle.halves.specs.Found.{Tables, Done}
+use Rattle.halves.specs.Kept.{Room, Advances}
 use Rattle.halves.proofs.Recorded.{keeps-none, keeps-then}
 use Rattle.halves.proofs.Stretches.{done-start, done-more, done-all, done-grow}
 use Rattle.halves.proofs.Filled.{tables-kept, room-kept, solved-kept, advances-from}

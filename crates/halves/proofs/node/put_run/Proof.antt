@@ -1,12 +1,9 @@
 -- `halves::node::put_run` meets its contract: a table without the place stays, and else the record is the new run's. Assumes nothing.
-use mathlib.Core.Path.{_≡_, sym, ap, _∙_}
-use mathlib.Core.List.{List}
-use Prim.Native.Nat.{ℕ, _+_, _*_, _≤_}
+use mathlib.Core.Path.{sym, ap, _∙_}
+use Prim.Native.Nat.{ℕ, _+_, _*_}
 use native.Mathlib.Omega.{arith}
-use lib.ListN.{length}
 use lib.Seq.{sets}
 use Rattle.laws.proofs.Stores.{sets-past}
-use Rattle.runs.specs.declared.Record.{Record}
 use Rattle.runs.specs.Table.{stride, numbersOf}
 use Rattle.halves.specs.Kept.{newRecord}
 use Rattle.halves.proofs.Added.{root-small}

@@ -1,6 +1,6 @@
 -- `halves::scan::scan` meets its contract: before the turn for p, every run of the part with a smaller period was found. Assumes nothing.
 use mathlib.Core.Path.{_≡_, refl, _∙_}
-use Prim.Native.Nat.{ℕ, _+_, _-_, _*_, _<_, _≤_}
+use Prim.Native.Nat.{_+_, _-_, _≤_}
 use native.Mathlib.Omega.{arith}
 use borrow.Author.Needs.{needs}
 use lib.ListN.{length}
@@ -44,8 +44,7 @@ loop-less c = search needs
 loop-again : tie.Need-loop-again Inv-loop μ-loop
 loop-again c =
     let i = c .before .before .before .before .before .before .before .before .loop .inv in
-    let x = c .before .before .before .before .scan-period in
-    (
+    let x = c .before .before .before .before .scan-period in (
       omega arith,
       omega arith,
       x .kept .1 .1 .1 .1 .0 ∙ i .2,

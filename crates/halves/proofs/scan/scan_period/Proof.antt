@@ -1,10 +1,8 @@
 -- `halves::scan::scan_period` meets its contract: its loop keeps `Scanned` of proofs/Scans.antt. Assumes nothing.
-use mathlib.Core.Path.{_≡_, refl, sym, _∙_}
-use mathlib.Core.List.{List}
-use Prim.Native.Nat.{ℕ, _+_, _-_, _*_, _<_, _≤_}
+use mathlib.Core.Path.{_≡_, refl, _∙_}
+use Prim.Native.Nat.{_-_}
 use native.Mathlib.Omega.{arith}
-use borrow.Author.Needs.{needs}
-use lib.ListN.{length, getD}
+use lib.ListN.{length}
 use Rattle.halves.specs.Scratch.{endsRow, nextRow}
 use Rattle.halves.specs.Found.{Below}
 use Rattle.halves.specs.Kept.{Room, Advances}
@@ -87,8 +85,7 @@ loop-again-2 c =
     let g = c .before .before .before .before .before .before .before .before .before .before .before .before .before .before .before .args in
     let q = c .before .before .before .before .before .before .before .before .before .before .before .before .before .before .before .pre in
     let i = c .before .before .before .before .before .before .before .before .before .before .before .loop .inv in
-    let x = c .before .before .before .before .attempt in
-    (
+    let x = c .before .before .before .before .attempt in (
       x .kept .1 .1 .1 .1 .1 .0 ∙ i .0,
       x .kept .1 .1 .1 .1 .1 .1 .0 ∙ i .1,
       keeps-then _ _ _ _ _ _ _ _ _ _ (i .2) (x .ensures .0),

@@ -1,8 +1,7 @@
 -- `prefixes::inner::extend` meets its contract: its loop keeps that the symbols agree so far. Assumes nothing.
-use mathlib.Core.Path.{_≡_, refl, sym, _∙_}
-use Prim.Native.Nat.{ℕ, _+_, _-_, _<_, _≤_}
+use mathlib.Core.Path.{sym, _∙_}
+use Prim.Native.Nat.{_+_, _-_}
 use native.Mathlib.Omega.{arith}
-use lib.ListN.{length}
 use Rattle.prefixes.specs.Match.{view, Agree}
 use Rattle.prefixes.proofs.Boxes.{agree-more, match-differs, match-ends}
 use Rattle.prefixes.proofs.inner.extend.Statement.{statement}

@@ -1,6 +1,5 @@
 -- `prefixes::inner::head` meets its contract: each way out is a case of `headOf`. Assumes nothing.
-use Prim.Native.Nat.{ℕ, _+_, _-_}
-use mathlib.Core.Path.{_≡_, refl, sym}
+use Prim.Native.Nat.{_+_, _-_}
 use native.Mathlib.Omega.{arith}
 use borrow.Author.Tests.{lt-ltb, le-ltb, le-leb, lt-leb}
 use Rattle.prefixes.specs.Filled.{headOf}

@@ -1,5 +1,5 @@
 -- `prefixes::inner::symbol` meets its contract: each way out is a case of `view`. Assumes nothing.
-use mathlib.Core.Path.{_≡_, refl, sym}
+use mathlib.Core.Path.{refl}
 use borrow.Author.Needs.{needs}
 use Rattle.prefixes.proofs.inner.symbol.Statement.{statement}
 use Rattle.prefixes.proofs.inner.symbol.Tie as tie
