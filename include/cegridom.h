@@ -188,7 +188,7 @@ uint32_t cegridom_part(const uint8_t *word, size_t n, uint32_t edition, uint32_t
  * same.
  * Reads word; changes the first 4 x count places of table. Refusals: 1, 7.
  * CEGRIDOM_MOST_RUN_PLACES(n) places, 4 x n, suffice for every word: with so many, 7 never comes.
- * Time at most quadratic in n; 17 KiB of stack.
+ * Time at most n x log n, with one more logarithm on powers; 67 KiB of stack.
  */
 uint32_t cegridom_runs(const uint8_t *word, size_t n, uint32_t *table, size_t places,
                        uint32_t *count, uint32_t *index);
@@ -199,7 +199,7 @@ uint32_t cegridom_runs(const uint8_t *word, size_t n, uint32_t *table, size_t pl
  * first + 3 x unit - 1) to last.
  * Reads word; changes the first count places of table. Refusals: 1, 12, 6, 7.
  * n places suffice, since a word has fewer runs than symbols: with so many, 7 never comes.
- * Time at most quadratic in n; 81 KiB of stack.
+ * Time that of runs; 131 KiB of stack.
  */
 uint32_t cegridom_nodes(const uint8_t *word, size_t n, uint32_t edition, uint32_t position,
                         uint32_t *table, size_t places, uint32_t *count, uint32_t *index);
@@ -287,7 +287,7 @@ uint32_t cegridom_judge_squares(const uint8_t *word, size_t n, const uint32_t *e
  * Reads word and ends; changes the first blocks places of table.
  * Refusals: 1; 12; then for each end in turn 3, 4; then 5; then 7.
  * CEGRIDOM_MOST_ENDS(n) places suffice: with so many, 7 never comes.
- * Time at most quadratic in n; 97 KiB of stack.
+ * Time that of runs; 131 KiB of stack.
  */
 uint32_t cegridom_path_of_split(const uint8_t *word, size_t n, uint32_t edition,
                                 const uint32_t *ends, size_t end_count, uint32_t *table,
@@ -298,7 +298,7 @@ uint32_t cegridom_path_of_split(const uint8_t *word, size_t n, uint32_t edition,
  * blocks, exactly when the numbers are those of a path of length n in the edition's graph of the
  * runs.
  * Reads word and numbers. Refusals: 1; 12; 10; then for each end in turn 3, 4; then 5.
- * Time at most quadratic in n; 97 KiB of stack.
+ * Time that of runs; 147 KiB of stack.
  */
 uint32_t cegridom_judge_path(const uint8_t *word, size_t n, uint32_t edition,
                              const uint32_t *numbers, size_t number_count, uint32_t *blocks,
@@ -314,7 +314,7 @@ uint32_t cegridom_judge_path(const uint8_t *word, size_t n, uint32_t edition,
  * Refusals: 1; 12; then for each end in turn 3, 4; then 5; then 7.
  * CEGRIDOM_PAGE_BYTES(end_count) bytes suffice, and CEGRIDOM_PAGE_BYTES(CEGRIDOM_MOST_ENDS(n)) for
  * every split.
- * Time at most quadratic in n; 113 KiB of stack.
+ * Time that of runs, and linear in the bytes; 147 KiB of stack.
  */
 uint32_t cegridom_write_page(const uint8_t *word, size_t n, uint32_t edition, const uint32_t *ends,
                              size_t end_count, uint8_t *out, size_t room, uint32_t *bytes,

@@ -12,9 +12,9 @@
 //! comes one more: what it takes beyond path of a split, for each block. With which first and first
 //! block another: what they take of the time of two fewest splits, of each the median batch.
 //!
-//! A call that is told an edition has a row for each, on the same words. Buffers are allocated once
-//! and not cleared between calls. Each figure is processor time, the least of several batches, those
-//! of the library and of the twin taking turns.
+//! A call that is told an edition has a row for each, on the same words. Of random words several are
+//! taken in turn. Buffers are allocated once and not cleared between calls. Each figure is processor
+//! time, the least of several batches, those of the library and of the twin taking turns.
 
 mod twin;
 #[path = "../tests/words/mod.rs"]
@@ -27,6 +27,9 @@ use words::{fibonacci, last_differs, thue_morse};
 
 const LENGTHS: [usize; 4] = [512, 1024, 2048, 4096];
 const SHORT: usize = 8;
+/// Random words of so many symbols together are taken in turn, at most so many words.
+const DIFFERENT_SYMBOLS: usize = 1 << 18;
+const MOST_DIFFERENT: usize = 512;
 const DOUBLINGS: f64 = 3.0;
 const BATCHES: usize = 11;
 /// More, where a small difference of two times is wanted.
@@ -41,8 +44,9 @@ const MICRO: f64 = 1e6;
 const MILLI: f64 = 1e3;
 const NANO: f64 = 1e9;
 
-fn random(n: usize, symbols: u64) -> Vec<u8> {
-    let mut state = 88_172_645_463_325_252u64;
+/// The word number `number` of such words; 0 is the one where one is enough.
+fn random_word(n: usize, symbols: u64, number: u64) -> Vec<u8> {
+    let mut state = 88_172_645_463_325_252u64 ^ number.wrapping_mul(0x9e37_79b9_7f4a_7c15);
     (0..n)
         .map(|_| {
             state ^= state << 13;
@@ -53,21 +57,58 @@ fn random(n: usize, symbols: u64) -> Vec<u8> {
         .collect()
 }
 
+fn random(n: usize, symbols: u64) -> Vec<u8> {
+    random_word(n, symbols, 0)
+}
+
 fn period_64(n: usize) -> Vec<u8> {
     let unit = random(64, 4);
     (0..n).map(|i| unit[i % 64]).collect()
 }
 
-type Family = (&'static str, fn(usize) -> Vec<u8>);
+/// Words of a length, one or many: the time of a random one that is taken again and again is not that
+/// of another, since the processor learns which way its branches go.
+struct Family {
+    name: &'static str,
+    many: bool,
+    word: fn(usize, u64) -> Vec<u8>,
+}
+
+impl Family {
+    const fn one(name: &'static str, word: fn(usize, u64) -> Vec<u8>) -> Family {
+        Family {
+            name,
+            many: false,
+            word,
+        }
+    }
+
+    const fn many(name: &'static str, word: fn(usize, u64) -> Vec<u8>) -> Family {
+        Family {
+            name,
+            many: true,
+            word,
+        }
+    }
+
+    fn words(&self, n: usize) -> Vec<Vec<u8>> {
+        let different = match self.many {
+            true => (DIFFERENT_SYMBOLS / n).min(MOST_DIFFERENT),
+            false => 1,
+        };
+        let numbers = 0..different as u64;
+        numbers.map(|number| (self.word)(n, number)).collect()
+    }
+}
 
 const FAMILIES: [Family; 7] = [
-    ("random, 2 symbols", |n| random(n, 2)),
-    ("random, 256 symbols", |n| random(n, 256)),
-    ("all equal", |n| vec![b'a'; n]),
-    ("a…ab", last_differs),
-    ("Fibonacci", fibonacci),
-    ("Thue–Morse", thue_morse),
-    ("period 64", period_64),
+    Family::many("random, 2 symbols", |n, i| random_word(n, 2, i)),
+    Family::many("random, 256 symbols", |n, i| random_word(n, 256, i)),
+    Family::one("all equal", |n, _| vec![b'a'; n]),
+    Family::one("a…ab", |n, _| last_differs(n)),
+    Family::one("Fibonacci", |n, _| fibonacci(n)),
+    Family::one("Thue–Morse", |n, _| thue_morse(n)),
+    Family::one("period 64", |n, _| period_64(n)),
 ];
 
 /// Random units over two symbols, of up to eight of them, each twice; n is even.
@@ -615,18 +656,20 @@ fn processor_time() -> f64 {
     time.seconds as f64 + time.nanoseconds as f64 * 1e-9
 }
 
-/// Seconds of one call, over a batch.
+/// Seconds of one call, over a batch of so many turns through the inputs.
 fn batch(
     call: fn(&Input, &mut Buffers) -> Answer,
-    input: &Input,
+    inputs: &[Input],
     buffers: &mut Buffers,
-    times: usize,
+    turns: usize,
 ) -> f64 {
     let start = processor_time();
-    for _ in 0..times {
-        black_box(call(black_box(input), black_box(buffers))).ok();
+    for _ in 0..turns {
+        for input in inputs {
+            black_box(call(black_box(input), black_box(buffers))).ok();
+        }
     }
-    (processor_time() - start) / times as f64
+    (processor_time() - start) / (turns * inputs.len()) as f64
 }
 
 /// What the library and its twin both answer, with equal tables.
@@ -637,37 +680,47 @@ fn agreed(call: &Call, input: &Input, ours: &mut Buffers, theirs: &mut Buffers) 
     given
 }
 
-/// How many calls by the library make a batch.
-fn times_of(call: &Call, input: &Input, buffers: &mut Buffers) -> usize {
-    let once = batch(call.library, input, buffers, 1);
+/// How many turns through the inputs make a batch.
+fn turns_of(call: &Call, inputs: &[Input], buffers: &mut Buffers) -> usize {
+    let once = batch(call.library, inputs, buffers, 1) * inputs.len() as f64;
     (BATCH_SECONDS / once).ceil().max(1.0) as usize
 }
 
-/// The library's time and its twin's, in seconds, and what both answered.
-fn measure(call: &Call, input: &Input) -> (f64, f64, Answer) {
-    let n = input.word.len();
+/// The library's time and its twin's, in seconds, and what both answered to the first input.
+fn measure(call: &Call, inputs: &[Input]) -> (f64, f64, Answer) {
+    let n = inputs[0].word.len();
     let (mut ours, mut theirs) = (Buffers::new(n), Buffers::new(n));
-    let given = agreed(call, input, &mut ours, &mut theirs);
-    let times = times_of(call, input, &mut ours);
+    for input in inputs {
+        agreed(call, input, &mut ours, &mut theirs).ok();
+    }
+    let given = (call.library)(&inputs[0], &mut ours);
+    let turns = turns_of(call, inputs, &mut ours);
     let (mut library, mut twin) = (f64::MAX, f64::MAX);
     for _ in 0..BATCHES {
-        library = library.min(batch(call.library, input, &mut ours, times));
-        twin = twin.min(batch(call.twin, input, &mut theirs, times));
+        library = library.min(batch(call.library, inputs, &mut ours, turns));
+        twin = twin.min(batch(call.twin, inputs, &mut theirs, turns));
     }
     (library, twin, given)
 }
 
-/// The library's time in edition 2 over that in edition 1, for the same word, split and path.
-fn to_first(call: &Call, word: &[u8]) -> f64 {
-    let second = Input::new(word.to_vec(), Edition::Two);
-    let first = Input::new(word.to_vec(), Edition::Two).told(Edition::One);
-    let mut buffers = Buffers::new(word.len());
-    let times = times_of(call, &second, &mut buffers);
-    let times_first = times_of(call, &first, &mut buffers);
+/// The words of a family, for a call that is told an edition.
+fn inputs(family: &Family, n: usize, edition: Edition) -> Vec<Input> {
+    let words = family.words(n).into_iter();
+    words.map(|word| Input::new(word, edition)).collect()
+}
+
+/// The library's time in edition 2 over that in edition 1, for the same words, splits and paths.
+fn to_first(call: &Call, family: &Family, n: usize) -> f64 {
+    let second = inputs(family, n, Edition::Two);
+    let told = inputs(family, n, Edition::Two).into_iter();
+    let first: Vec<Input> = told.map(|input| input.told(Edition::One)).collect();
+    let mut buffers = Buffers::new(n);
+    let turns = turns_of(call, &second, &mut buffers);
+    let turns_first = turns_of(call, &first, &mut buffers);
     let (mut two, mut one) = (f64::MAX, f64::MAX);
     for _ in 0..BATCHES {
-        two = two.min(batch(call.library, &second, &mut buffers, times));
-        one = one.min(batch(call.library, &first, &mut buffers, times_first));
+        two = two.min(batch(call.library, &second, &mut buffers, turns));
+        one = one.min(batch(call.library, &first, &mut buffers, turns_first));
     }
     two / one
 }
@@ -701,13 +754,13 @@ struct Row {
 }
 
 impl Row {
-    fn new(call: &'static Call, (word, make): Family, edition: Edition) -> Row {
+    fn new(call: &'static Call, family: &Family, edition: Edition) -> Row {
         let mut row = Row {
             call: call.name,
             edition: call.in_editions.then_some(edition),
             word: match call.on {
-                On::Word => word.to_string(),
-                On::TwoWords => format!("{word}; Fibonacci"),
+                On::Word => family.name.to_string(),
+                On::TwoWords => format!("{}; Fibonacci", family.name),
                 On::Ends => "every second end".to_string(),
             },
             times: [0.0; LENGTHS.len()],
@@ -716,10 +769,10 @@ impl Row {
             to_first: None,
         };
         for (time, n) in row.times.iter_mut().zip(LENGTHS) {
-            (*time, row.twin, row.given) = measure(call, &Input::new(make(n), edition));
+            (*time, row.twin, row.given) = measure(call, &inputs(family, n, edition));
         }
         if edition == Edition::Two {
-            row.to_first = Some(to_first(call, &make(LENGTHS[LENGTHS.len() - 1])));
+            row.to_first = Some(to_first(call, family, LENGTHS[LENGTHS.len() - 1]));
         }
         row
     }
@@ -773,7 +826,7 @@ fn time(calls: impl Iterator<Item = &'static Call>) {
     println!("|---|---|---|---|--:|--:|--:|--:|--:|--:|--:|--:|");
     let mut rows = Vec::new();
     for call in calls {
-        for &family in families(call) {
+        for family in families(call) {
             for &edition in editions(call) {
                 let row = Row::new(call, family, edition);
                 row.print();
@@ -785,6 +838,17 @@ fn time(calls: impl Iterator<Item = &'static Call>) {
         let named = rows.iter().filter(|row| row.call.starts_with(name));
         greatest(named.map(Row::longest)) * MILLI
     };
+    let by_runs = ["runs", "nodes", PATH, "judge a path"];
+    for name in by_runs {
+        let named = || rows.iter().filter(|row| row.call.starts_with(name));
+        if named().next().is_some() {
+            println!(
+                "\n{name}: worst of 4,096 symbols {:.2} ms, worst growth {:.2}.",
+                slowest(name),
+                greatest(named().map(Row::growth))
+            );
+        }
+    }
     println!(
         "\nWorst ratio {:.2}, worst growth {:.2}, worst to edition 1 {:.2}; slowest best split of 4,096 symbols {:.1} ms, slowest best squares {:.1} ms.",
         greatest(rows.iter().map(Row::ratio)),
@@ -821,13 +885,13 @@ fn time_pages() {
         for n in LENGTHS {
             let (word, ends) = make(n);
             let blocks = ends.len();
-            let input = Input::split(word, Edition::One, ends);
+            let input = [Input::split(word, Edition::One, ends)];
             let mut buffers = Buffers::new(n);
-            let times = times_of(path, &input, &mut buffers);
+            let turns = turns_of(path, &input, &mut buffers);
             let (mut without, mut with) = (f64::MAX, f64::MAX);
             for _ in 0..CLOSE_BATCHES {
-                without = without.min(batch(path.library, &input, &mut buffers, times));
-                with = with.min(batch(page.library, &input, &mut buffers, times));
+                without = without.min(batch(path.library, &input, &mut buffers, turns));
+                with = with.min(batch(page.library, &input, &mut buffers, turns));
             }
             println!(
                 "| {name} | {} | {} | {:.1} | {:.1} | {:.0} |",
@@ -849,9 +913,9 @@ fn time_short(calls: impl Iterator<Item = &'static Call>) {
     println!("|---|---|---|---|--:|--:|");
     for call in calls {
         for &edition in editions(call) {
-            let measured = families(call).iter().map(|&(word, make)| {
-                let (library, twin, given) = measure(call, &Input::new(make(SHORT), edition));
-                (word, library, twin, given)
+            let measured = families(call).iter().map(|family| {
+                let (library, twin, given) = measure(call, &inputs(family, SHORT, edition));
+                (family.name, library, twin, given)
             });
             let slowest = measured.max_by(|a, b| a.1.total_cmp(&b.1));
             let (word, library, twin, given) = slowest.expect("there are words");
@@ -884,14 +948,14 @@ fn time_pairs() {
     let mut worst = 0.0f64;
     for (name, make) in PAIRS {
         for n in PAIR_LENGTHS {
-            let input = Input::pair(make(n), Edition::One);
+            let input = [Input::pair(make(n), Edition::One)];
             let mut buffers = Buffers::new(n);
-            let times = times_of(calls[0], &input, &mut buffers);
+            let turns = turns_of(calls[0], &input, &mut buffers);
             let sides = [two_fewest, calls[0].library, calls[1].library];
             let mut seen = sides.map(|_| Vec::new());
             for _ in 0..CLOSE_BATCHES {
                 for (times_seen, side) in seen.iter_mut().zip(sides) {
-                    times_seen.push(batch(side, &input, &mut buffers, times));
+                    times_seen.push(batch(side, &input, &mut buffers, turns));
                 }
             }
             let [two, which, block] = seen.map(median);
@@ -930,11 +994,13 @@ fn greatest(figures: impl Iterator<Item = f64>) -> f64 {
 /// Compares the answers at the least length, and on words of a few symbols.
 fn compare(calls: impl Iterator<Item = &'static Call>) {
     for call in calls {
-        for (_, make) in families(call) {
+        for family in families(call) {
             for &edition in editions(call) {
                 for n in [SHORT, LENGTHS[0]] {
                     let (mut ours, mut theirs) = (Buffers::new(n), Buffers::new(n));
-                    agreed(call, &Input::new(make(n), edition), &mut ours, &mut theirs).ok();
+                    for input in inputs(family, n, edition) {
+                        agreed(call, &input, &mut ours, &mut theirs).ok();
+                    }
                 }
             }
         }

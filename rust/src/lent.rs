@@ -197,7 +197,7 @@ pub fn part_into(
 /// place `i` of the table has the number `i + 1`.
 ///
 /// Refusals: 1, 7. A table of [`most_runs`](crate::most_runs) runs never gets 7. Time at most
-/// quadratic in the length; 17 KiB of stack.
+/// n log n in the length n, with one more logarithm on powers; 67 KiB of stack.
 ///
 /// ```
 /// use cegridom::{runs_into, Run};
@@ -219,8 +219,8 @@ pub fn runs_into(word: &[u8], table: &mut [Run]) -> Result<usize, Refusal> {
 /// there are. A run has one at each position from `first + 2 * unit - 1` to `last`; in edition 2,
 /// from `first + 3 * unit - 1`.
 ///
-/// Refusals: 1, 6, 7. A table of [`most_runs`](crate::most_runs) numbers never gets 7. Time at most
-/// quadratic in the length; 81 KiB of stack.
+/// Refusals: 1, 6, 7. A table of [`most_runs`](crate::most_runs) numbers never gets 7. Time that of
+/// [`runs_into`]; 131 KiB of stack.
 ///
 /// ```
 /// use cegridom::{nodes_into, Edition};
@@ -507,8 +507,8 @@ pub fn judge_squares(word: &[u8], ends: &[u32]) -> Result<usize, Refusal> {
 /// one run that encloses the block and has its unit.
 ///
 /// Refusals: 1; then for each end in turn 3, 4; then 5; then 7. A table of
-/// [`most_ends`](crate::most_ends) numbers never gets 7. Time at most quadratic in the length; 97
-/// KiB of stack.
+/// [`most_ends`](crate::most_ends) numbers never gets 7. Time that of [`runs_into`]; 131 KiB of
+/// stack.
 ///
 /// ```
 /// use cegridom::{path_of_split_into, Edition};
@@ -538,8 +538,8 @@ pub fn path_of_split_into(
 /// Judges a path in the edition's graph of the runs: the number of its blocks, or what is wrong with
 /// it.
 ///
-/// Refusals: 1; then for each end in turn 3, 4; then 5. Time at most quadratic in the length;
-/// 97 KiB of stack.
+/// Refusals: 1; then for each end in turn 3, 4; then 5. Time that of [`runs_into`]; 147 KiB of
+/// stack.
 ///
 /// ```
 /// use cegridom::{judge_path, Edition, Refusal, Step};
@@ -570,8 +570,8 @@ pub fn judge_path(word: &[u8], edition: Edition, path: &[Step]) -> Result<usize,
 /// number is that of [`path_of_split_into`]. The other eighteen show the first nine symbols of the
 /// unit, two lower-case hexadecimal digits each, with spaces after a shorter unit.
 ///
-/// Refusals: 1; then for each end in turn 3, 4; then 5; then 7. Time at most quadratic in the
-/// length; 113 KiB of stack.
+/// Refusals: 1; then for each end in turn 3, 4; then 5; then 7. Time that of [`runs_into`], and
+/// linear in the bytes; 147 KiB of stack.
 ///
 /// ```
 /// use cegridom::{page_bytes, write_page_into, Edition};

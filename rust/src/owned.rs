@@ -123,7 +123,7 @@ pub fn units(word: &[u8], first: u32, last: u32) -> Result<Vec<u32>, Refusal> {
 
 /// The runs of a word, by first and then by unit; run number `i` is at place `i - 1`.
 ///
-/// Refusal: 1. Allocates [`most_runs`] runs while it works; 17 KiB of stack.
+/// Refusal: 1. Allocates [`most_runs`] runs while it works; 67 KiB of stack.
 ///
 /// ```
 /// let runs = cegridom::runs(b"aabaabaa").unwrap();
@@ -147,7 +147,7 @@ pub fn runs(word: &[u8]) -> Result<Vec<Run>, Refusal> {
 /// The numbers of the runs that have a white node at a position, rising: those that reach it and
 /// have two whole turns (in edition 2, three) up to it.
 ///
-/// Refusals: 1, 6. Allocates [`most_runs`] numbers while it works; 81 KiB of stack.
+/// Refusals: 1, 6. Allocates [`most_runs`] numbers while it works; 131 KiB of stack.
 ///
 /// ```
 /// use cegridom::{nodes, Edition, Refusal};
@@ -301,7 +301,7 @@ pub fn first_block<'a>(a: &'a [u8], b: &'a [u8], edition: Edition) -> &'a [u8] {
 /// The run number of each block of a split: that of the one run that encloses the block and has its
 /// unit.
 ///
-/// Refusals: 1; then for each end in turn 3, 4; then 5. Allocates its answer; 97 KiB of stack.
+/// Refusals: 1; then for each end in turn 3, 4; then 5. Allocates its answer; 131 KiB of stack.
 ///
 /// ```
 /// use cegridom::{judge_path, path_of_split, Edition, Step};
@@ -323,7 +323,7 @@ pub fn path_of_split(word: &[u8], edition: Edition, ends: &[u32]) -> Result<Vec<
 /// first, last, unit, turns, rest, run number, and the first nine symbols of its unit in hexadecimal
 /// digits. The text of [`write_page_into`] says how a line is laid out.
 ///
-/// Refusals: 1; then for each end in turn 3, 4; then 5. Allocates its answer; 113 KiB of stack.
+/// Refusals: 1; then for each end in turn 3, 4; then 5. Allocates its answer; 147 KiB of stack.
 ///
 /// ```
 /// use cegridom::{write_page, Edition, Refusal};

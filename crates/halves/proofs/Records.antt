@@ -1,4 +1,4 @@
--- The table with the records of all runs: as it was where it has too few places, and with all of them else; n places a number suffice for n symbols. By the test
+-- The table with the records of all runs: as it was where it has too few places, and with all of them else; 4 × n places suffice for n symbols. By the test
 -- of the definition, and that a word has fewer runs than symbols. Assumes nothing.
 use mathlib.Core.Path.{_≡_, refl, sym}
 use mathlib.Core.List.{List}

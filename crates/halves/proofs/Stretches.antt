@@ -218,10 +218,6 @@ module _ (w : List ℕ) (lo m hi : ℕ) (h : hi ≤ length w) where
   pub done-all : (p : ℕ) (ends : List ℕ) → hi < lo + 2 * p → Done w lo m hi p ends → Solved w lo hi ends
   done-all p ends z D = record { found = λ A B t l u. D .found A B t l u (inr (inr (omega (arith, twice A B t u)))) }
 
-  -- a part too short for a run
-  pub solved-short : (ends : List ℕ) → hi < lo + 2 → Solved w lo hi ends
-  solved-short ends z = record { found = λ A B t l u. absurd (omega (arith, twice A B t u)) }
-
 pub solved-grow : (w : List ℕ) (lo hi : ℕ) (e f : List ℕ) → ((a : ℕ) → getD e a 0 ≤ getD f a 0) → Solved w lo hi e → Solved w lo hi f
 solved-grow w lo hi e f x S = record { found = λ A B t l u. omega (arith, S .found A B t l u, x A) }
 

@@ -24,12 +24,12 @@ fn left_maximal(w: &[u8], a: usize, p: usize) -> bool
     w[a - 1] != w[a - 1 + p]
 }
 
-// Nor, up to boundary b, to the right.
-fn right_maximal(w: &[u8], b: usize, p: usize) -> bool
-    requires { ⌜ (p ≤ b) × (b ≤ length (now w)) ⌝ }
+// Nor, up to boundary b, to the right. The word ends at n.
+fn right_maximal(w: &[u8], n: usize, b: usize, p: usize) -> bool
+    requires { ⌜ (n ≡ length (now w)) × (p ≤ b) × (b ≤ n) ⌝ }
     ensures { λ r. ⌜ r ≡ right? (now (w .entry)) b p ⌝ }
 {
-    if b == w.len() {
+    if b == n {
         return true;
     }
     w[b] != w[b - p]
@@ -89,16 +89,17 @@ pub(crate) fn attempt(
     if left + right < p {
         return;
     }
+    let n = w.len();
     let a = c - left;
     let b = c + p + right;
-    let end = 2 * (w.len() + 1) + a;
+    let end = 2 * (n + 1) + a;
     if b <= scratch[end] as usize {
         return;
     }
     if !left_maximal(w, a, p) {
         return;
     }
-    if !right_maximal(w, b, p) {
+    if !right_maximal(w, n, b, p) {
         return;
     }
     add_run(w, a, b, p, scratch, table);

@@ -12,7 +12,7 @@ use page_lines::LINE_BYTES;
 
 // Write a page: a line of 60 characters and byte 10 for each block of a split; gives the count of
 // bytes. Refusals: those of judge a split, then 7; with 61 × (n/2) bytes for n symbols 7 never comes.
-// Time: that of path of a split, and a line for each block; 113 KiB of stack.
+// Time: that of path of a split, and a line for each block; 147 KiB of stack.
 pub fn write_page(w: &[u8], edition: u32, ends: &[u32], out: &mut [u8]) -> Counted
     ensures answer { λ r. ⌜ countedView r ≡ pageOutcome (now (w .entry)) edition (now (ends .entry)) (length (now (out .entry))) ⌝ }
     ensures written { λ r. ⌜ now (out .exit) ≡ pageTable (now (w .entry)) edition (now (ends .entry)) (now (out .entry)) ⌝ }

@@ -49,14 +49,6 @@ fn judge_in(w: &[u8], turns: usize, ends: &[u32], units: &mut [u32]) -> Counted
     Counted::Count(k as u32)
 }
 
-fn judge_short(w: &[u8], turns: usize, ends: &[u32]) -> Counted
-    requires { ⌜ (length (now w) ≤ shortLimit) × Turns turns ⌝ }
-    ensures { λ r. ⌜ countedView r ≡ pieceVerdict (repetition? anyPeriod turns) (now (w .entry)) (now (ends .entry)) ⌝ }
-{
-    let mut units = [0u32; halves::SHORT];
-    judge_in(w, turns, ends, &mut units)
-}
-
 fn judge_long(w: &[u8], turns: usize, ends: &[u32]) -> Counted
     requires { ⌜ (length (now w) ≤ limit) × Turns turns ⌝ }
     ensures { λ r. ⌜ countedView r ≡ pieceVerdict (repetition? anyPeriod turns) (now (w .entry)) (now (ends .entry)) ⌝ }
@@ -65,22 +57,21 @@ fn judge_long(w: &[u8], turns: usize, ends: &[u32]) -> Counted
     judge_in(w, turns, ends, &mut units)
 }
 
-// The verdict of judge a split, with an array for the units, so that it takes time linear in the
-// word's length. Refusals: 1, 12; then for each end in turn 3, 4; then 5.
+// The verdict of judge a split, for a long word with an array for the units, so that it takes time
+// linear in the word's length. Refusals: 1, 12; then for each end in turn 3, 4; then 5.
 pub fn judge_blocks(w: &[u8], edition: u32, ends: &[u32]) -> Counted
     ensures { λ r. ⌜ countedView r ≡ splitOutcome (now (w .entry)) edition (now (ends .entry)) ⌝ }
 {
+    if w.len() <= halves::SHORT {
+        return repetitions::judge_split(w, edition, ends);
+    }
     if answers::LIMIT < w.len() {
         return Counted::Refused(Refusal::TooLong);
     }
     if periods::bad_edition(edition) {
         return Counted::Refused(Refusal::BadEdition);
     }
-    let turns = periods::turns(edition);
-    if w.len() <= halves::SHORT {
-        return judge_short(w, turns, ends);
-    }
-    judge_long(w, turns, ends)
+    judge_long(w, periods::turns(edition), ends)
 }
 
 fn units_in(w: &[u8], ends: &[u32], units: &mut [u32], table: &mut [u32])

@@ -11,8 +11,8 @@ use answers::Refusal;
 
 // Path of a split: writes the run number of each block, and gives the number of blocks. With the
 // ends these are the encoding of the one path that goes with the split. Refusals: those of
-// judge a split, then 7; with n/2 places for n symbols 7 never comes. Time: that of the table of runs,
-// n log n with one more logarithm at most on powers, and linear; 129 KiB of stack.
+// judge a split, then 7; with n/2 places for n symbols 7 never comes. Time: that of the runs call; 131
+// KiB of stack.
 pub fn path_of_split(w: &[u8], edition: u32, ends: &[u32], table: &mut [u32]) -> Counted
     ensures answer { λ r. ⌜ countedView r ≡ pathOutcome (now (w .entry)) edition (now (ends .entry)) (length (now (table .entry))) ⌝ }
     ensures written { λ r. ⌜ now (table .exit) ≡ pathTable (now (w .entry)) edition (now (ends .entry)) (now (table .entry)) ⌝ }
@@ -34,8 +34,7 @@ pub fn path_of_split(w: &[u8], edition: u32, ends: &[u32], table: &mut [u32]) ->
 
 // Judge a path, for each block a run number and then an end: accepted, with the number of blocks,
 // exactly when the numbers encode a path of the word's length in the repetition graph. Refusals: 1,
-// 12, 10, then as for a split. Time: that of the table of runs, n log n with one more logarithm at
-// most on powers, and linear; 145 KiB of stack.
+// 12, 10, then as for a split. Time: that of the runs call; 147 KiB of stack.
 pub fn judge_path(w: &[u8], edition: u32, numbers: &[u32]) -> Counted
     ensures answer { λ r. ⌜ countedView r ≡ pathJudgedOutcome (now (w .entry)) edition (now (numbers .entry)) ⌝ }
     ensures meaning { λ r. ⌜ PathJudgedMeaning (now (w .entry)) edition (now (numbers .entry)) (countedView r) ⌝ }

@@ -6,6 +6,8 @@ pub type Answer<T> = Result<T, (u32, u32)>;
 const LIMIT: usize = 4096;
 /// Words of at most so many symbols get small arrays.
 const SHORT: usize = 64;
+/// Parts of at most so many symbols are not halved.
+const LEAF: usize = 16;
 /// The rows that the finder of runs works in.
 const ROWS: usize = 4;
 const NONE: u32 = u32::MAX;
@@ -214,9 +216,24 @@ impl Rows<'_> {
         }
     }
 
+    /// All runs of a short part: for each period, every stretch that agrees with what stands a
+    /// period later.
+    fn scan(&mut self, w: &[u8], lo: usize, hi: usize, table: &mut [u32]) {
+        for p in 1..=(hi - lo) / 2 {
+            let mut start = lo;
+            for at in lo..hi - p {
+                if w[at] != w[at + p] {
+                    self.attempt(w, start, p, 0, at - start, table);
+                    start = at + 1;
+                }
+            }
+            self.attempt(w, start, p, 0, hi - p - start, table);
+        }
+    }
+
     fn solve(&mut self, w: &[u8], lo: usize, hi: usize, table: &mut [u32]) {
-        if hi - lo < 2 {
-            return;
+        if hi - lo <= LEAF {
+            return self.scan(w, lo, hi, table);
         }
         let m = lo + (hi - lo) / 2;
         self.solve(w, lo, m, table);
@@ -568,16 +585,15 @@ fn blocks_in(w: &[u8], turns: usize, ends: &[u32], unit_table: &mut [u32]) -> An
     })
 }
 
-/// The verdict of judge a split, in time linear in the word's length.
+/// The verdict of judge a split, of a long word in time linear in its length.
 fn judge_blocks(w: &[u8], edition: u32, ends: &[u32]) -> Answer<u32> {
+    if w.len() <= SHORT {
+        return judge_split(w, edition, ends);
+    }
     if LIMIT < w.len() {
         return Err((1, 0));
     }
-    let turns = turns_of(edition)?;
-    if w.len() <= SHORT {
-        return blocks_in(w, turns, ends, &mut [0; SHORT]);
-    }
-    blocks_in(w, turns, ends, &mut [0; LIMIT])
+    blocks_in(w, turns_of(edition)?, ends, &mut [0; LIMIT])
 }
 
 fn units_in(w: &[u8], ends: &[u32], unit_table: &mut [u32], table: &mut [u32]) {

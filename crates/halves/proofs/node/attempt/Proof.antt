@@ -51,7 +51,7 @@ returns-2 : tie.Need-returns-2
 returns-2 c =
     let g = c .before .before .before .before .before .before .args in
     let q = c .before .before .before .before .before .before .pre in
-    way-old (g .w .now) (g .scratch .now) (g .table .now) (g .c - g .left) (g .c + g .p + g .right) (g .p) (q .1) (c .if2 .taken)
+    way-old (g .w .now) (g .scratch .now) (g .table .now) (g .c - g .left) (g .c + g .p + g .right) (g .p) (q .1) (omega (arith, c .if2 .taken))
 
 left-maximal-requires : tie.Need-left-maximal-requires
 left-maximal-requires c κs = search needs
