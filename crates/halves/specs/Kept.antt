@@ -7,6 +7,7 @@ use lib.ListN.{length, getD}
 use Rattle.runs.specs.declared.Record.{Record}
 use Rattle.runs.specs.Table.{rootOf, rowsAt, rowsBefore, runsOf, stride, flat}
 use Rattle.halves.specs.Scratch.{Scratch, prefixRow, suffixRow, endsRow, nextRow}
+use Rattle.halves.specs.Found.{Tables, Done, Solved}
 
 -- the record of a run with period p between two boundaries
 abbrev pub newRecord : List ℕ → ℕ → ℕ → ℕ → Record
@@ -41,6 +42,15 @@ pub record Keeps (w ends next table ends′ next′ table′ : List ℕ) : Type 
 -- the scratch and the room in its rows
 abbrev pub Roomy : List ℕ → List ℕ → Type 0
 Roomy w s = Scratch w s × Room w (endsRow w s) (nextRow w s)
+
+-- before the runs that cross boundary m are looked for: those of either side were found
+abbrev pub Halved : List ℕ → ℕ → ℕ → ℕ → List ℕ → Type 0
+Halved w lo m hi s = (lo ≤ m) × (m ≤ hi) × (hi ≤ length w) × Solved w lo m (endsRow w s) × Solved w m hi (endsRow w s) × Roomy w s
+
+-- before those with period p are: the tables of the part are there, and the runs with smaller periods were found too
+abbrev pub Crossed : List ℕ → ℕ → ℕ → ℕ → ℕ → List ℕ → Type 0
+Crossed w lo m hi p s =
+    (1 ≤ p) × (lo ≤ m) × (m ≤ hi) × (hi ≤ length w) × Tables w lo m hi (prefixRow w s) (suffixRow w s) × Done w lo m hi p (endsRow w s) × Roomy w s
 
 -- the same step, of the scratch and the table
 abbrev pub Advances : List ℕ → List ℕ → List ℕ → List ℕ → List ℕ → Type 0

@@ -9,7 +9,7 @@ ghost use Rattle.periods.specs.Period.{part, SmallestPeriod};
 ghost use Rattle.runs.specs.Table.{left?, right?, stride, numbersOf};
 ghost use Rattle.halves.specs.Scratch.{Scratch, prefixRow, suffixRow, endsRow};
 ghost use Rattle.halves.specs.Found.{Periodic, Tables, Ready, New, Tried, Met, Done, Solved};
-ghost use Rattle.halves.specs.Kept.{newRecord, Roomy, Advances, SamePrefixes, SameRecords};
+ghost use Rattle.halves.specs.Kept.{newRecord, Roomy, Halved, Crossed, Advances, SamePrefixes, SameRecords};
 use runs::Record;
 use runs::STRIDE;
 
@@ -107,7 +107,7 @@ pub(crate) fn attempt(
 
 // Tries the longest part of period p around the p symbols after boundary m, between lo and hi.
 fn above(w: &[u8], lo: usize, m: usize, hi: usize, p: usize, scratch: &mut [u32], table: &mut [u32])
-    requires { ⌜ (1 ≤ p) × (lo ≤ m) × (m ≤ hi) × (hi ≤ length (now w)) × Tables (now w) lo m hi (prefixRow (now w) (now scratch)) (suffixRow (now w) (now scratch)) × Done (now w) lo m hi p (endsRow (now w) (now scratch)) × Roomy (now w) (now scratch) ⌝ }
+    requires { ⌜ Crossed (now w) lo m hi p (now scratch) ⌝ }
     ensures keeps { λ _. ⌜ Advances (now (w .entry)) (now (scratch .entry)) (now (table .entry)) (now (scratch .exit)) (now (table .exit)) ⌝ }
     ensures same { λ _. ⌜ SamePrefixes (now (w .entry)) (now (scratch .entry)) (now (scratch .exit)) ⌝ }
     ensures met { λ _. ⌜ Met (now (w .entry)) lo hi (m + p) p (endsRow (now (w .entry)) (now (scratch .exit))) ⌝ }
@@ -124,7 +124,7 @@ fn above(w: &[u8], lo: usize, m: usize, hi: usize, p: usize, scratch: &mut [u32]
 
 // The same around the p symbols before it.
 fn below(w: &[u8], lo: usize, m: usize, hi: usize, p: usize, scratch: &mut [u32], table: &mut [u32])
-    requires { ⌜ (1 ≤ p) × (lo ≤ m) × (m ≤ hi) × (hi ≤ length (now w)) × Tables (now w) lo m hi (prefixRow (now w) (now scratch)) (suffixRow (now w) (now scratch)) × Done (now w) lo m hi p (endsRow (now w) (now scratch)) × Roomy (now w) (now scratch) ⌝ }
+    requires { ⌜ Crossed (now w) lo m hi p (now scratch) ⌝ }
     ensures keeps { λ _. ⌜ Advances (now (w .entry)) (now (scratch .entry)) (now (table .entry)) (now (scratch .exit)) (now (table .exit)) ⌝ }
     ensures same { λ _. ⌜ SamePrefixes (now (w .entry)) (now (scratch .entry)) (now (scratch .exit)) ⌝ }
     ensures met { λ _. ⌜ Met (now (w .entry)) lo hi m p (endsRow (now (w .entry)) (now (scratch .exit))) ⌝ }
@@ -156,7 +156,7 @@ fn fill_tables(w: &[u8], lo: usize, m: usize, hi: usize, scratch: &mut [u32])
 
 // The runs between lo and hi that cross boundary m, when those on both sides of it were found.
 pub(crate) fn node(w: &[u8], lo: usize, m: usize, hi: usize, scratch: &mut [u32], table: &mut [u32])
-    requires { ⌜ (lo ≤ m) × (m ≤ hi) × (hi ≤ length (now w)) × Solved (now w) lo m (endsRow (now w) (now scratch)) × Solved (now w) m hi (endsRow (now w) (now scratch)) × Roomy (now w) (now scratch) ⌝ }
+    requires { ⌜ Halved (now w) lo m hi (now scratch) ⌝ }
     ensures keeps { λ _. ⌜ Advances (now (w .entry)) (now (scratch .entry)) (now (table .entry)) (now (scratch .exit)) (now (table .exit)) ⌝ }
     ensures solved { λ _. ⌜ Solved (now (w .entry)) lo hi (endsRow (now (w .entry)) (now (scratch .exit))) ⌝ }
 {

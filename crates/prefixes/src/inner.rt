@@ -3,7 +3,7 @@ ghost use mathlib.Core.Path.{_≡_};
 ghost use Prim.Native.Nat.{_+_, _-_, _≤_, _<_, _^_};
 ghost use lib.ListN.{length, drop};
 ghost use Rattle.prefixes.specs.Match.{view, Agree, Match, Matched};
-ghost use Rattle.prefixes.specs.Filled.{headOf, Filled};
+ghost use Rattle.prefixes.specs.Filled.{headOf, Filled, Fillable};
 
 // Symbol i of the part, or of its mirror.
 fn symbol(part: &[u8], mirrored: bool, i: usize) -> u8
@@ -55,7 +55,7 @@ fn head(t: &[u32], mid: usize, i: usize, l: usize, r: usize) -> usize
 // after it are there. The box is the prefix found that reaches furthest, so that each symbol is
 // passed once.
 fn fill(part: &[u8], mirrored: bool, mid: usize, from: usize, to: usize, t: &mut [u32])
-    requires { ⌜ (mid ≤ length (now part)) × (from ≤ mid + 1) × (from ≤ to) × (to ≤ length (now part) + 1) × (from ≤ mid → to ≤ mid) × (length (now part) < length (now t)) × (length (now part) < 2 ^ 32) × Filled (view mirrored (now part)) (length (now part)) mid from from (now t) ⌝ }
+    requires { ⌜ Fillable mirrored (now part) mid from to (now t) ⌝ }
     ensures { λ _. ⌜ Filled (view mirrored (now (part .entry))) (length (now (part .entry))) mid from to (now (t .exit)) ⌝ }
     ensures { λ _. ⌜ drop (length (now (part .entry)) + 1) (now (t .exit)) ≡ drop (length (now (part .entry)) + 1) (now (t .entry)) ⌝ }
 {
