@@ -3,11 +3,12 @@
  *
  * A word is at most CEGRIDOM_LIMIT bytes, any byte value a symbol, with positions from 1. The unit
  * of a part is its smallest period. A block (repetition) is a part at least 2 x its unit long in
- * edition 1, and at least 3 x in edition 2. A run is a block of edition 1 that cannot be
- * lengthened; runs and their numbers are the same in both editions. A split (factorization) is a
- * series of blocks that join up to the word, given by the positions of their ends. A square is a
- * non-empty word twice over; the calls on squares split into them instead of into blocks, and are
- * told no edition.
+ * edition 1, and at least 3 x in edition 2; its unit has at most CEGRIDOM_UNIT_MEMORY symbols. A
+ * run is a part at least 2 x its unit long, of a unit of any length, that cannot be lengthened;
+ * runs and their numbers are the same in both editions. A split (factorization) is a series of
+ * blocks that join up to the word, given by the positions of their ends. A square is a non-empty
+ * word of any length twice over; the calls on squares split into them instead of into blocks, and
+ * are told no edition.
  *
  * Every call about words or plans returns 0 for accepted, else the number of the refusal: of those
  * that the call's comment lists, the first that is met, in the order listed. *index is the number
@@ -23,7 +24,7 @@
  *
  * Calls are reentrant: they keep no state, allocate nothing and call nothing back, so any number of
  * threads may call at once, with tables of their own. What a call costs is said in each comment, n
- * being the length of the word; where no stack is named, it is under 400 bytes. Stack figures are
+ * being the length of the word; where no stack is named, it is under 450 bytes. Stack figures are
  * for a warm call: where memset or memcpy is bound lazily, the first call of a process may take some
  * 3 KiB more, since the dynamic linker looks them up on the caller's stack.
  *
@@ -44,12 +45,14 @@ extern "C" {
 
 /* The version of this header, in numbers and as text; cegridom_version gives the archive's. */
 #define CEGRIDOM_VERSION_MAJOR 0
-#define CEGRIDOM_VERSION_MINOR 8
+#define CEGRIDOM_VERSION_MINOR 9
 #define CEGRIDOM_VERSION (1000 * CEGRIDOM_VERSION_MAJOR + CEGRIDOM_VERSION_MINOR)
-#define CEGRIDOM_VERSION_STRING "0.8"
+#define CEGRIDOM_VERSION_STRING "0.9"
 
 /* The longest word that is taken. */
 #define CEGRIDOM_LIMIT 4096
+/* The longest unit of a block, in both editions: what unit memory holds. */
+#define CEGRIDOM_UNIT_MEMORY 256
 /* What the working tables of cegridom_best_split and cegridom_best_squares hold for a prefix that
    has no split. */
 #define CEGRIDOM_NONE 4294967295u
@@ -100,8 +103,8 @@ enum cegridom_result {
     /* an end not above the one before it (0 before the first), or above n */
     CEGRIDOM_BAD_END = 3,
     /* the piece up to this end is not a block; for squares, not a square; for a path, no run has
-       that number, or the run does not enclose the piece, or the piece is shorter than 2 x (edition
-       2: 3 x) the run's unit */
+       that number, or its unit is above 256, or the run does not enclose the piece, or the piece is
+       shorter than 2 x (edition 2: 3 x) the run's unit */
     CEGRIDOM_NOT_BLOCK = 4,
     /* the last end (0 if there are none) is not n */
     CEGRIDOM_UNFINISHED = 5,
@@ -134,8 +137,8 @@ static inline const char *cegridom_message(uint32_t result) {
         return "an end not above the one before it (0 before the first), or above n";
     case CEGRIDOM_NOT_BLOCK:
         return "the piece up to this end is not a block; for squares, not a square; for a path, "
-               "no run has that number, or the run does not enclose the piece, or the piece is "
-               "shorter than 2 x (edition 2: 3 x) the run's unit";
+               "no run has that number, or its unit is above 256, or the run does not enclose the "
+               "piece, or the piece is shorter than 2 x (edition 2: 3 x) the run's unit";
     case CEGRIDOM_UNFINISHED:
         return "the last end (0 if there are none) is not n";
     case CEGRIDOM_BAD_POSITION:
@@ -196,7 +199,7 @@ uint32_t cegridom_runs(const uint8_t *word, size_t n, uint32_t *table, size_t pl
 /*
  * Nodes: writes the numbers of the runs that have a white node at the position, rising, to table,
  * and gives their count. A run has one at each position from first + 2 x unit - 1 (in edition 2,
- * first + 3 x unit - 1) to last.
+ * first + 3 x unit - 1) to last; a run whose unit is above 256 has none.
  * Reads word; changes the first count places of table. Refusals: 1, 12, 6, 7.
  * n places suffice, since a word has fewer runs than symbols: with so many, 7 never comes.
  * Time that of runs; 131 KiB of stack.
@@ -214,7 +217,8 @@ uint32_t cegridom_nodes(const uint8_t *word, size_t n, uint32_t edition, uint32_
  * 0 to n, CEGRIDOM_NONE where the prefix has no split, and 0 in the following 3 x (n+1); after an
  * answer and after refusals 2 and 7 alike. After 1, 12, 8 and 9 it keeps its contents. Places past
  * 4 x (n+1) never change.
- * Time at most quadratic in n; 300 bytes of stack and 48 a block of the split, 97 KiB at most.
+ * Time at most proportional to n x 512 (edition 2: n x 768), for long words: from each boundary so
+ * many symbols are read. 350 bytes of stack and 48 a block of the split, 97 KiB at most.
  */
 uint32_t cegridom_best_split(const uint8_t *word, size_t n, uint32_t edition, uint32_t choice,
                              uint32_t *ends, size_t end_places, uint32_t *work, size_t work_places,
@@ -231,7 +235,7 @@ uint32_t cegridom_best_split(const uint8_t *word, size_t n, uint32_t edition, ui
  * 0 to n, CEGRIDOM_NONE where the prefix has no split into squares, and 0 in the following
  * 3 x (n+1); after an answer and after refusals 2 and 7 alike. After 1, 8 and 9 it keeps its
  * contents. Places past 4 x (n+1) never change.
- * Time at most quadratic in n; 300 bytes of stack and 48 a square of the split, 97 KiB at most.
+ * Time at most quadratic in n; 350 bytes of stack and 48 a square of the split, 97 KiB at most.
  */
 uint32_t cegridom_best_squares(const uint8_t *word, size_t n, uint32_t choice, uint32_t *ends,
                                size_t end_places, uint32_t *work, size_t work_places,
@@ -244,7 +248,7 @@ uint32_t cegridom_best_squares(const uint8_t *word, size_t n, uint32_t choice, u
  * if neither can be split.
  * The first 4 x (n+1) places of the working table hold 0 afterwards, after an answer and after 2
  * alike. After 1, 12 and 9 it keeps its contents. Places past 4 x (n+1) never change.
- * Time at most quadratic in n, that of two fewest splits.
+ * Time that of two fewest splits.
  */
 uint32_t cegridom_which_first(const uint8_t *a, size_t a_n, const uint8_t *b, size_t b_n,
                               uint32_t edition, uint32_t *work, size_t work_places, uint32_t *which,
@@ -257,7 +261,7 @@ uint32_t cegridom_which_first(const uint8_t *a, size_t a_n, const uint8_t *b, si
  * refuses, both numbers are 0; the result is CEGRIDOM_ACCEPTED always.
  * Reads a and b, and leaves the working table, as cegridom_which_first does, also where that
  * refuses.
- * Time at most quadratic in n, that of two fewest splits.
+ * Time that of two fewest splits.
  */
 uint32_t cegridom_first_block(const uint8_t *a, size_t a_n, const uint8_t *b, size_t b_n,
                               uint32_t edition, uint32_t *work, size_t work_places, uint32_t *which,
@@ -267,7 +271,7 @@ uint32_t cegridom_first_block(const uint8_t *a, size_t a_n, const uint8_t *b, si
  * Judge a split: accepted, with the number of blocks, exactly when the ends are those of a split
  * into blocks of the edition.
  * Reads word and ends. Refusals: 1; 12; then for each end in turn 3, 4; then 5.
- * Time at most quadratic in n.
+ * Time at most proportional to n x CEGRIDOM_UNIT_MEMORY.
  */
 uint32_t cegridom_judge_split(const uint8_t *word, size_t n, uint32_t edition, const uint32_t *ends,
                               size_t end_count, uint32_t *blocks, uint32_t *index);

@@ -1,5 +1,5 @@
 """What the bench program prints for a line, from the definitions of document 01 and of document 02's
-item 7.
+items 7 and 9.
 
 Passes are counted from 0 here and a part ends before its end, as Python has it; what is printed
 counts from 1."""
@@ -7,6 +7,7 @@ counts from 1."""
 from functools import lru_cache
 
 LIMIT = 1024
+UNIT_MEMORY = 256  # the passes of the longest unit that a block has
 
 
 def unit(part):
@@ -37,8 +38,9 @@ def blocks_and_runs(word):
             end = reach[p][i]
             if end < i + 2 * p:
                 continue
-            # with the period p, the unit is p or less, and the part is a block
-            ends_from[i][i + 2 * p : end + 1] = b"\1" * (end + 1 - i - 2 * p)
+            # with the period p, the unit is p or less, and the part is a block if memory holds it
+            if p <= UNIT_MEMORY:
+                ends_from[i][i + 2 * p : end + 1] = b"\1" * (end + 1 - i - 2 * p)
             # it cannot be lengthened to the right, since it is the longest
             if (i == 0 or word[i - 1] != word[i + p - 1]) and unit(word[i:end]) == p:
                 runs.append((i, end, p))

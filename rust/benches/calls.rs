@@ -38,6 +38,8 @@ const CLOSE_BATCHES: usize = 33;
 const BATCH_SECONDS: f64 = 0.004;
 /// What a call may take of its twin's time.
 const MOST_RATIO: f64 = 1.5;
+/// What best split may take in edition 2 of its time in edition 1, as it reads half as far again.
+const MOST_TO_FIRST: f64 = 1.7;
 /// What a call on two words may take of the time of their two fewest splits.
 const MOST_OF_TWO: f64 = 1.05;
 const MICRO: f64 = 1e6;
@@ -64,6 +66,12 @@ fn random(n: usize, symbols: u64) -> Vec<u8> {
 fn period_64(n: usize) -> Vec<u8> {
     let unit = random(64, 4);
     (0..n).map(|i| unit[i % 64]).collect()
+}
+
+/// The longest unit of a block, a²⁵⁵b, again and again.
+fn period_256(n: usize) -> Vec<u8> {
+    let unit = last_differs(256);
+    (0..n).map(|i| unit[i % 256]).collect()
 }
 
 /// Words of a length, one or many: the time of a random one that is taken again and again is not that
@@ -101,7 +109,7 @@ impl Family {
     }
 }
 
-const FAMILIES: [Family; 7] = [
+const FAMILIES: [Family; 8] = [
     Family::many("random, 2 symbols", |n, i| random_word(n, 2, i)),
     Family::many("random, 256 symbols", |n, i| random_word(n, 256, i)),
     Family::one("all equal", |n, _| vec![b'a'; n]),
@@ -109,6 +117,7 @@ const FAMILIES: [Family; 7] = [
     Family::one("Fibonacci", |n, _| fibonacci(n)),
     Family::one("Thue–Morse", |n, _| thue_morse(n)),
     Family::one("period 64", |n, _| period_64(n)),
+    Family::one("(a²⁵⁵b)…", |n, _| period_256(n)),
 ];
 
 /// Random units over two symbols, of up to eight of them, each twice; n is even.
@@ -135,8 +144,8 @@ const PAGES: [Page; 4] = [
         let ends = cegridom::best_split(&word, Edition::One, Choice::Most).unwrap();
         (word, ends)
     }),
-    ("a…ab twice, one block", |n| {
-        (last_differs(n / 2).repeat(2), vec![n as u32])
+    ("(a²⁵⁵b)…, one block", |n| {
+        (period_256(n), vec![n as u32])
     }),
     ("all equal, one block", |n| (vec![b'a'; n], vec![n as u32])),
 ];
@@ -849,6 +858,15 @@ fn time(calls: impl Iterator<Item = &'static Call>) {
             );
         }
     }
+    let splits = || rows.iter().filter(|row| row.call.starts_with("best split"));
+    if splits().next().is_some() {
+        println!(
+            "\nbest split: worst of 4,096 symbols {:.2} ms, worst ratio {:.2}, worst to edition 1 {:.2}.",
+            slowest("best split"),
+            greatest(splits().map(Row::ratio)),
+            greatest(splits().filter_map(|row| row.to_first))
+        );
+    }
     println!(
         "\nWorst ratio {:.2}, worst growth {:.2}, worst to edition 1 {:.2}; slowest best split of 4,096 symbols {:.1} ms, slowest best squares {:.1} ms.",
         greatest(rows.iter().map(Row::ratio)),
@@ -860,6 +878,12 @@ fn time(calls: impl Iterator<Item = &'static Call>) {
     for row in rows.iter().filter(|row| row.ratio() > MOST_RATIO) {
         let (call, word, ratio) = (row.call, &row.word, row.ratio());
         println!("Over {MOST_RATIO} times the twin: {call}, {word}: ratio {ratio:.2}.");
+    }
+    for row in splits() {
+        let (call, word, ratio) = (row.call, &row.word, row.to_first.unwrap_or_default());
+        if ratio > MOST_TO_FIRST {
+            println!("Over {MOST_TO_FIRST} times edition 1: {call}, {word}: {ratio:.2}.");
+        }
     }
 }
 

@@ -79,7 +79,8 @@ pub struct Part {
     pub block: bool,
 }
 
-/// A run: a block of edition 1 that cannot be lengthened. Positions count from 1.
+/// A run: a part at least twice as long as its unit that cannot be lengthened. Positions count from
+/// 1.
 #[derive(Clone, Copy, Debug, Default, PartialEq, Eq, Hash)]
 #[repr(C)]
 pub struct Run {
@@ -217,7 +218,8 @@ pub fn runs_into(word: &[u8], table: &mut [Run]) -> Result<usize, Refusal> {
 
 /// Writes the numbers of the runs that have a white node at a position, rising, and gives how many
 /// there are. A run has one at each position from `first + 2 * unit - 1` to `last`; in edition 2,
-/// from `first + 3 * unit - 1`.
+/// from `first + 3 * unit - 1`. A run whose unit is above
+/// [`UNIT_MEMORY`](crate::UNIT_MEMORY) has none.
 ///
 /// Refusals: 1, 6, 7. A table of [`most_runs`](crate::most_runs) numbers never gets 7. Time that of
 /// [`runs_into`]; 131 KiB of stack.
@@ -250,7 +252,8 @@ pub fn nodes_into(
 /// one before it, and so on.
 ///
 /// Refusals: 1, 9, 2, 7. [`most_ends`](crate::most_ends) places for the ends never get 7. Time at
-/// most quadratic in the length; 48 bytes of stack a block of the split, 97 KiB at most.
+/// most proportional to the length times 512, in edition 2 times 768; 48 bytes of stack a block of
+/// the split, 97 KiB at most.
 ///
 /// The working table needs [`work_places`](crate::work_places) places, and those past them never
 /// change. After an answer, and after 2 and 7 too, its first `n + 1` places hold the best size of
@@ -358,8 +361,8 @@ pub fn best_squares_into(
 /// Which of two words has fewer blocks in its fewest split. The first wins a tie; if only one can
 /// be split it is that one. The two may overlap or be the same.
 ///
-/// Refusals: 1 for either; 9 for the longer; 2 if neither can be split. Time at most quadratic in
-/// the longer length, that of two fewest splits.
+/// Refusals: 1 for either; 9 for the longer; 2 if neither can be split. Time that of two fewest
+/// splits.
 ///
 /// The working table needs the [`work_places`](crate::work_places) of the longer word, and those
 /// past them never change. After an answer, and after 2 too, its first so many places hold 0. After
@@ -405,8 +408,8 @@ pub fn which_first_into(
 /// the first end. It is empty where that word is empty, and where [`which_first_into`] refuses; that
 /// function tells the two apart.
 ///
-/// The working table is used and left as by [`which_first_into`], also where that refuses. Time at
-/// most quadratic in the longer length, that of two fewest splits.
+/// The working table is used and left as by [`which_first_into`], also where that refuses. Time that
+/// of two fewest splits.
 ///
 /// ```
 /// use cegridom::{first_block_into, work_places, Edition};
@@ -454,7 +457,8 @@ pub fn first_block_into<'a>(
 
 /// Judges a split, given by its ends: the number of its blocks, or what is wrong with it.
 ///
-/// Refusals: 1; then for each end in turn 3, 4; then 5. Time at most quadratic in the length.
+/// Refusals: 1; then for each end in turn 3, 4; then 5. Time at most proportional to the length times
+/// [`UNIT_MEMORY`](crate::UNIT_MEMORY).
 ///
 /// ```
 /// use cegridom::{judge_split, Edition, Refusal};

@@ -3,13 +3,14 @@
 //! A *word* is a slice of bytes, at most [`LIMIT`] of them; any byte value is a symbol, and
 //! positions count from 1. The *unit* of a part is the smallest distance at which no two of its
 //! symbols differ. A *block* is a part at least twice as long as its unit in edition 1, and at
-//! least three times as long in edition 2; a function that tests for blocks or nodes is told the
-//! [`Edition`]. A *run* is a block of edition 1 that cannot be lengthened; runs and their numbers
-//! are the same in both editions. A *split* of a word is a series of blocks that join up to it,
-//! given by the positions of their ends. The field calls a block a repetition, its unit its
-//! smallest period, and a split a repetition factorization. A *square* is a non-empty word twice
-//! over; [`best_squares_into`] and [`judge_squares`] split into squares instead of blocks, and are
-//! told no edition.
+//! least three times as long in edition 2, and its unit has at most [`UNIT_MEMORY`] symbols; a
+//! function that tests for blocks or nodes is told the [`Edition`]. A *run* is a part at least
+//! twice as long as its unit, of a unit of any length, that cannot be lengthened; runs and their
+//! numbers are the same in both editions. A *split* of a word is a series of blocks that join up to
+//! it, given by the positions of their ends. The field calls a block a repetition, its unit its
+//! smallest period, and a split a repetition factorization. A *square* is a non-empty word of any
+//! length twice over; [`best_squares_into`] and [`judge_squares`] split into squares instead of
+//! blocks, and are told no edition.
 //!
 //! ```
 //! # #[cfg(feature = "alloc")] {
@@ -45,7 +46,7 @@
 //!
 //! No call keeps state, so any number of threads may call at once. What the archive takes of the
 //! stack is said in the text of each function, 147 KiB at most; where nothing is said, it is under
-//! 400 bytes.
+//! 450 bytes.
 //!
 //! # What is proved
 //!
@@ -83,6 +84,9 @@ pub use refusal::Refusal;
 
 /// The longest word that the library takes.
 pub const LIMIT: usize = 4096;
+
+/// The longest unit of a block, in both editions: what unit memory holds.
+pub const UNIT_MEMORY: u32 = 256;
 
 /// What the working tables of [`best_split_into`] and [`best_squares_into`] hold for a leading part
 /// that has no split.

@@ -145,7 +145,8 @@ pub fn runs(word: &[u8]) -> Result<Vec<Run>, Refusal> {
 }
 
 /// The numbers of the runs that have a white node at a position, rising: those that reach it and
-/// have two whole turns (in edition 2, three) up to it.
+/// have two whole turns (in edition 2, three) up to it, of a unit of at most
+/// [`UNIT_MEMORY`](crate::UNIT_MEMORY) symbols.
 ///
 /// Refusals: 1, 6. Allocates [`most_runs`] numbers while it works; 131 KiB of stack.
 ///

@@ -26,8 +26,8 @@ pub enum Refusal {
         index: u32,
     },
     /// 4: the piece up to this end is not a block; for squares, not a square; for a path, no run has
-    /// the number given, or the run does not enclose the piece, or the piece is shorter than twice
-    /// (in edition 2, three times) the run's unit.
+    /// the number given, or its unit is above 256, or the run does not enclose the piece, or the piece
+    /// is shorter than twice (in edition 2, three times) the run's unit.
     NotBlock {
         /// Which end, from 1.
         index: u32,

@@ -8,7 +8,7 @@ mod words;
 
 use cegridom::{raw, Choice, Edition, Refusal, Step, Which};
 use reference::Outcome::{self, Accepted, Refused};
-use reference::{Best, Run, EDITIONS, LIMIT, RUN_PLACES};
+use reference::{Best, Rule, Run, EDITIONS, LIMIT, RUN_PLACES, UNIT_MEMORY};
 use words::{every_word, fibonacci, last_differs, thue_morse};
 
 /// What stands in a value before a call, and beside a table.
@@ -96,7 +96,7 @@ impl<'a> Known<'a> {
         Known {
             word,
             runs: reference::runs(word),
-            bests: reference::bests(word),
+            bests: reference::bests(word, UNIT_MEMORY),
         }
     }
 
@@ -501,8 +501,8 @@ impl Checker {
     }
 
     fn nodes_sizes(&mut self, known: &Known, edition: u32, position: u32) {
-        let turns = reference::turns(edition).unwrap();
-        let exact = reference::white(&known.runs, turns, position as usize).len();
+        let rule = Rule::of(edition).unwrap();
+        let exact = reference::white(&known.runs, rule, position as usize).len();
         for places in around_in(edition, exact, known.word.len()) {
             self.nodes(known, edition, position, places);
         }
@@ -790,29 +790,36 @@ fn reference_follows_the_definitions() {
         let runs = reference::runs(w);
         assert_eq!(runs, reference::plain_runs(w));
         assert!(n == 0 || runs.len() < n);
-        let bests = reference::bests(w);
-        for (edition, bests) in EDITIONS.into_iter().zip(bests) {
-            let turns = reference::turns(edition).unwrap();
-            for (choice, best) in [1, 2].into_iter().zip(bests) {
-                let splits = |part: &[u8]| reference::plain_splits(part, turns);
-                assert_eq!(best, reference::plain_best(w, choice, splits));
-                made += 1;
-            }
-            // The splits and the paths of each leading length go together one to one.
-            for t in 0..=n {
-                let mut ends: Vec<Vec<u32>> = reference::plain_paths(&runs, turns, n, t)
-                    .iter()
-                    .map(|path| path.iter().skip(1).step_by(2).copied().collect())
-                    .collect();
-                ends.sort();
-                let mut splits = reference::plain_splits(&w[..t], turns);
-                splits.sort();
-                assert_eq!(ends, splits);
-                made += 1;
+        // These words are too short for what memory holds, but not for a smaller memory.
+        for memory in [1, 2, UNIT_MEMORY] {
+            let bests = reference::bests(w, memory);
+            for (edition, bests) in EDITIONS.into_iter().zip(bests) {
+                let turns = reference::turns(edition).unwrap();
+                made += follows_the_definitions(w, &runs, Rule { turns, memory }, bests);
             }
         }
     });
     println!("the reference against the definitions: {made} comparisons");
+}
+
+/// The best splits, and the splits and the paths of each leading length, which go together one to one.
+fn follows_the_definitions(w: &[u8], runs: &[Run], rule: Rule, bests: [Best; 2]) -> u64 {
+    let n = w.len();
+    for (choice, best) in [1, 2].into_iter().zip(bests) {
+        let splits = |part: &[u8]| reference::plain_splits(part, rule);
+        assert_eq!(best, reference::plain_best(w, choice, splits));
+    }
+    for t in 0..=n {
+        let mut ends: Vec<Vec<u32>> = reference::plain_paths(runs, rule, n, t)
+            .iter()
+            .map(|path| path.iter().skip(1).step_by(2).copied().collect())
+            .collect();
+        ends.sort();
+        let mut splits = reference::plain_splits(&w[..t], rule);
+        splits.sort();
+        assert_eq!(ends, splits);
+    }
+    n as u64 + 3
 }
 
 /// Longer ones than for blocks, since few of the short ones have a split into squares.
@@ -1038,7 +1045,7 @@ fn short_words_judged_squares() {
             checker.judge_squares(w, &ends);
         }
         // Splits into blocks too, most of which are not squares.
-        for ends in reference::plain_splits(w, 2) {
+        for ends in reference::plain_splits(w, Rule::of(1).unwrap()) {
             checker.judge_squares(w, &ends);
         }
     });
@@ -1241,7 +1248,7 @@ fn short_words_judged_splits() {
                 checker.judge_split(w, edition, &ends);
                 checker.path_of_split(&known, edition, &ends, ends.len());
             }
-            for ends in reference::plain_splits(w, reference::turns(edition).unwrap()) {
+            for ends in reference::plain_splits(w, Rule::of(edition).unwrap()) {
                 // The other edition may refuse it.
                 checker.judge_split(w, 3 - edition, &ends);
                 checker.judge_split(w, edition, &ends);
@@ -1276,8 +1283,8 @@ fn short_words_judged_paths() {
         let known = Known::of(w);
         let n = w.len();
         for edition in EDITIONS {
-            let turns = reference::turns(edition).unwrap();
-            for path in reference::plain_paths(&known.runs, turns, n, n) {
+            let rule = Rule::of(edition).unwrap();
+            for path in reference::plain_paths(&known.runs, rule, n, n) {
                 assert!(matches!(
                     reference::judge_path_call(w, edition, &known.runs, &path),
                     Accepted(_)
@@ -1320,7 +1327,7 @@ fn short_words_pages() {
             for ends in rising_ends(n) {
                 checker.write_page(&known, edition, &ends, page_bytes(&ends));
             }
-            for ends in reference::plain_splits(w, reference::turns(edition).unwrap()) {
+            for ends in reference::plain_splits(w, Rule::of(edition).unwrap()) {
                 checker.page_sizes(&known, edition, &ends);
                 // The other edition may refuse it.
                 checker.page_sizes(&known, 3 - edition, &ends);
@@ -1634,6 +1641,384 @@ fn powers_of_powers() {
     checker.report("powers of powers");
 }
 
+// ---- what unit memory holds, and how far best split reads from a boundary
+
+/// The lengths of units that are tried: short ones, and those about what memory holds.
+const UNITS: [usize; 5] = [1, 2, UNIT_MEMORY - 1, UNIT_MEMORY, UNIT_MEMORY + 1];
+
+/// The ends of one to four turns of the longest unit. Two and three of them are what is read from a
+/// boundary in the two editions.
+const EDGES: [usize; 4] = [
+    UNIT_MEMORY,
+    2 * UNIT_MEMORY,
+    3 * UNIT_MEMORY,
+    4 * UNIT_MEMORY,
+];
+
+/// The lengths at which the memory decides first: those of two and of three turns of such units.
+const DECIDED: [std::ops::RangeInclusive<usize>; 2] = [
+    2 * UNIT_MEMORY - 2..=2 * UNIT_MEMORY + 4,
+    3 * UNIT_MEMORY - 3..=3 * UNIT_MEMORY + 5,
+];
+
+/// One pass of code 1 and others of code 0.
+fn one_and_zeros(length: usize) -> Vec<u8> {
+    let mut unit = vec![0; length];
+    unit[0] = 1;
+    unit
+}
+
+/// Units of a length: with one symbol that differs, at either end; random ones; and ones made of
+/// blocks, so that a split may end at many boundaries inside them.
+fn units_of(numbers: &mut Numbers, length: usize) -> Vec<Vec<u8>> {
+    if length <= 2 {
+        return vec![vec![0, 1][..length].to_vec()];
+    }
+    let mut blocks = numbers.joined(length, 3, 4);
+    blocks.truncate(length);
+    let reversed = one_and_zeros(length).into_iter().rev().collect();
+    vec![
+        one_and_zeros(length),
+        reversed,
+        numbers.word(length, 2),
+        blocks,
+        fibonacci(length),
+    ]
+}
+
+/// So many symbols of a unit wound again and again.
+fn wound(unit: &[u8], length: usize) -> Vec<u8> {
+    unit.iter().cycle().take(length).copied().collect()
+}
+
+/// A word with other material before it, which can be split, or after it, or both, in turn.
+fn beside(numbers: &mut Numbers, turn: usize, word: &[u8]) -> Vec<u8> {
+    let other = match turn / 4 % 2 {
+        0 => vec![9; 3],
+        _ => numbers.joined(20, 3, 4),
+    };
+    let (before, after) = match turn % 4 {
+        0 => (&[][..], &[][..]),
+        1 => (&other[..], &[][..]),
+        2 => (&[][..], &other[..]),
+        _ => (&other[..], &other[..]),
+    };
+    [before, word, after].concat()
+}
+
+/// The number of the run that encloses each piece and has its unit, whether memory holds it or not; 0
+/// where there is none.
+fn enclosing(known: &Known, ends: &[u32]) -> Vec<u32> {
+    let befores = [0].iter().chain(ends);
+    let pieces = befores.zip(ends).map(|(&a, &b)| (a as usize, b as usize));
+    let number = |(a, b): (usize, usize)| {
+        let unit = reference::unit(known.word.get(a..b).filter(|piece| !piece.is_empty())?);
+        let encloses = |run: &Run| run.0 <= a + 1 && b <= run.1 && run.2 == unit;
+        known.runs.iter().position(encloses)
+    };
+    pieces
+        .map(|piece| number(piece).map_or(0, |i| i as u32 + 1))
+        .collect()
+}
+
+/// What the calls that are given ends say of them, and judge a path of the runs that go with them.
+fn judged(checker: &mut Checker, known: &Known, edition: u32, ends: &[u32]) {
+    checker.judge_split(known.word, edition, ends);
+    checker.path_of_split(known, edition, ends, ends.len());
+    checker.write_page(known, edition, ends, page_bytes(ends));
+    let path = encoded(&enclosing(known, ends), ends);
+    checker.judge_path(known, edition, &path);
+}
+
+/// The best splits of a word, with the whole of both tables.
+fn best_splits(checker: &mut Checker, known: &Known) {
+    for edition in EDITIONS {
+        for choice in [1, 2] {
+            let size = known.best(edition, choice).1.as_ref().map_or(0, Vec::len);
+            checker.best_split(known, edition, choice, size, 4 * (known.word.len() + 1));
+        }
+    }
+}
+
+/// The same, and the best splits judged.
+fn best_splits_judged(checker: &mut Checker, known: &Known) {
+    best_splits(checker, known);
+    for edition in EDITIONS {
+        for best in &known.bests[edition as usize - 1] {
+            if let Some(ends) = &best.1 {
+                judged(checker, known, edition, ends);
+            }
+        }
+    }
+}
+
+/// The parts, nodes, splits and paths of the runs of a word with units about what memory holds: with
+/// one symbol fewer than the turns of the edition, with these, with one more, and all of them; alone,
+/// and after the piece before the run.
+fn about_memory(checker: &mut Checker, known: &Known) {
+    let (w, n) = (known.word, known.word.len());
+    let about = UNIT_MEMORY - 1..=UNIT_MEMORY + 1;
+    for &(first, last, unit, _) in known.runs.iter().filter(|run| about.contains(&run.2)) {
+        for edition in EDITIONS {
+            let span = reference::turns(edition).unwrap() * unit;
+            let mut lasts = vec![first + span - 2, first + span - 1, first + span, last];
+            lasts.retain(|&last| last <= n);
+            lasts.dedup();
+            for last in lasts {
+                let before = first as u32 - 1;
+                checker.part(w, edition, first as u32, last as u32, last + 1 - first);
+                checker.nodes_sizes(known, edition, last as u32);
+                let last = last as u32;
+                for ends in [&[last][..], &[before, last], &[before, last, n as u32]] {
+                    judged(checker, known, edition, ends);
+                }
+            }
+            checker.nodes_sizes(known, edition, last.min(n - 1) as u32 + 1);
+        }
+    }
+}
+
+/// The reference's judges against the definitions, at the lengths where the memory decides first.
+#[test]
+fn reference_follows_the_definitions_about_memory() {
+    let mut numbers = Numbers(3_141_592_653);
+    let mut made = 0u64;
+    for length in DECIDED.into_iter().flatten() {
+        for unit in UNITS.map(|unit| units_of(&mut numbers, unit)).concat() {
+            let w = wound(&unit, length);
+            for edition in EDITIONS {
+                let block = reference::plain_is_block(&w, Rule::of(edition).unwrap());
+                let n = length as u32;
+                let (part, _) = reference::part_call(&w, edition, 1, n, length);
+                assert!(matches!(part, Accepted(values) if values[3] == block as u32));
+                let judged = reference::judge_split_call(&w, edition, &[n]);
+                assert_eq!(judged == Accepted(vec![1]), block);
+                made += 2;
+            }
+        }
+    }
+    println!("the reference against the definitions about memory: {made} comparisons");
+}
+
+/// One symbol 1 and symbols 0 as the unit, of the edition's turns, after so many symbols 2, of which
+/// there are none or enough for a block: all of the word is blocks if memory holds the unit, and else
+/// the last piece is none, by every call, and the word has no split.
+fn held_or_not(checker: &mut Checker, edition: u32, before: usize, unit: usize, held: bool) {
+    let turns = reference::turns(edition).unwrap();
+    let w = [vec![2; before], one_and_zeros(unit).repeat(turns)].concat();
+    let (known, n, work) = (Known::of(&w), w.len() as u32, 4 * (w.len() + 1));
+    let mut ends = vec![before as u32, n];
+    ends.retain(|&end| end > 0);
+    let (pieces, first, places) = (ends.len() as u32, before as u32 + 1, turns * unit);
+    let part = vec![unit as u32, turns as u32, 0, held as u32];
+    let given = reference::part_call(&w, edition, first, n, places).0;
+    assert_eq!(given, Accepted(part));
+    expect(checker, 0, &|c| c.part(&w, edition, first, n, places));
+    let (verdict, best) = match held {
+        true => (Accepted(vec![pieces]), 0),
+        false => (Refused(4, pieces), 2),
+    };
+    assert_eq!(reference::judge_split_call(&w, edition, &ends), verdict);
+    let refused = if held { 0 } else { 4 };
+    let path = encoded(&enclosing(&known, &ends), &ends);
+    expect(checker, refused, &|c| c.judge_split(&w, edition, &ends));
+    expect(checker, refused, &|c| {
+        c.path_of_split(&known, edition, &ends, ends.len())
+    });
+    expect(checker, refused, &|c| {
+        c.write_page(&known, edition, &ends, page_bytes(&ends))
+    });
+    expect(checker, refused, &|c| c.judge_path(&known, edition, &path));
+    for choice in [1, 2] {
+        expect(checker, best, &|c| {
+            c.best_split(&known, edition, choice, ends.len(), work)
+        });
+    }
+    expect(checker, best, &|c| {
+        c.which_first(&known, &known, edition, work)
+    });
+    expect(checker, 0, &|c| {
+        c.first_block(&known, &known, edition, work)
+    });
+    runs_and_nodes(checker, &w);
+}
+
+/// The example of the request: one pass of code 1 and 256 of code 0, all wound twice, was a block and
+/// is one no longer; with 255 of code 0 it still is.
+#[test]
+fn units_that_memory_does_not_hold() {
+    let mut checker = Checker::default();
+    for edition in EDITIONS {
+        for before in [0, 3] {
+            for (unit, held) in [(255, true), (256, true), (257, false), (258, false)] {
+                held_or_not(&mut checker, edition, before, unit, held);
+            }
+        }
+    }
+    checker.report("units that memory does not hold");
+}
+
+/// Words of the lengths at which the memory decides first.
+#[test]
+fn shortest_words_about_memory() {
+    let mut checker = Checker::default();
+    let mut numbers = Numbers(2_718_281_828);
+    let mut turn = 0;
+    for length in DECIDED.into_iter().flatten() {
+        let units = UNITS.map(|unit| units_of(&mut numbers, unit)).concat();
+        for unit in units.into_iter().filter(|unit| unit.len() > 2) {
+            let w = wound(&unit, length);
+            let mut changed = w.clone();
+            changed[[0, length / 2, length - 1, 254, 255, 256, 257][turn % 7]] ^= 1;
+            for w in [&w, &beside(&mut numbers, 1 + turn % 7, &w), &changed] {
+                let known = Known::of(w);
+                best_splits_judged(&mut checker, &known);
+                about_memory(&mut checker, &known);
+            }
+            turn += 1;
+        }
+    }
+    checker.report("shortest words about memory");
+}
+
+/// Long runs with one symbol changed, or with a block put between, at each place about an end of what
+/// is read from the run's start.
+#[test]
+fn runs_broken_at_a_windows_end() {
+    let mut checker = Checker::default();
+    let mut numbers = Numbers(1_618_033_988);
+    let mut turn = 0;
+    for unit in UNITS.map(|unit| units_of(&mut numbers, unit)).concat() {
+        for edge in EDGES {
+            for place in edge - 3..=edge + 3 {
+                let run = wound(&unit, edge + 300 + numbers.below(300));
+                let mut changed = run.clone();
+                changed[place] ^= 1;
+                let parted = [&run[..place], &[9; 3], &run[place..]].concat();
+                for w in [changed, parted] {
+                    let w = beside(&mut numbers, turn, &w);
+                    best_splits(&mut checker, &Known::of(&w));
+                    turn += 1;
+                }
+                turn += 1;
+            }
+        }
+    }
+    checker.report("runs broken at a window's end");
+}
+
+/// Two runs, one after the other or one in the other's rest, of lengths about those of the windows.
+#[test]
+fn two_runs_about_memory() {
+    let mut checker = Checker::default();
+    let mut numbers = Numbers(1_414_213_562);
+    let mut turn = 0;
+    for first in UNITS {
+        for second in UNITS {
+            for _ in 0..4 {
+                let [a, b] = [first, second].map(|length| {
+                    let units = units_of(&mut numbers, length);
+                    let window = EDGES[1 + numbers.below(2)];
+                    let unit = &units[numbers.below(units.len())];
+                    let from = numbers.below(unit.len());
+                    wound(
+                        &wound(unit, from + unit.len())[from..],
+                        window - 4 + numbers.below(300),
+                    )
+                });
+                let w = beside(&mut numbers, turn, &[a, b].concat());
+                let known = Known::of(&w);
+                best_splits_judged(&mut checker, &known);
+                about_memory(&mut checker, &known);
+                turn += 1;
+            }
+        }
+    }
+    checker.report("two runs about memory");
+}
+
+/// Runs of two to four windows, whole and with one symbol changed.
+#[test]
+fn runs_of_many_windows() {
+    let mut checker = Checker::default();
+    let mut numbers = Numbers(1_732_050_807);
+    let mut turn = 0;
+    for unit in UNITS.map(|unit| units_of(&mut numbers, unit)).concat() {
+        for window in [2 * UNIT_MEMORY, 3 * UNIT_MEMORY] {
+            let length = window * (2 + turn % 3) + numbers.below(9);
+            let mut w = wound(&unit, length);
+            best_splits(&mut checker, &Known::of(&beside(&mut numbers, turn, &w)));
+            let place = numbers.below(length);
+            w[place] ^= 1;
+            best_splits(&mut checker, &Known::of(&w));
+            turn += 1;
+        }
+    }
+    checker.report("runs of many windows");
+}
+
+/// Parts of random units, short ones and ones about what memory holds, joined.
+#[test]
+fn joined_parts_about_memory() {
+    let mut checker = Checker::default();
+    let mut numbers = Numbers(2_236_067_977);
+    for turn in 0..150 {
+        let mut w = Vec::new();
+        while w.len() < 1200 {
+            let length = [1, 3, 64, 128, 254, 255, 256, 257, 300][numbers.below(9)];
+            let unit = numbers.word(length, 2 + turn % 2);
+            w.extend(wound(&unit, 2 * length + numbers.below(2 * length + 200)));
+        }
+        best_splits_judged(&mut checker, &Known::of(&w));
+        let place = numbers.below(w.len());
+        w[place] ^= 1;
+        best_splits(&mut checker, &Known::of(&w));
+    }
+    checker.report("joined parts about memory");
+}
+
+/// Words that the memory decides about beside one another and beside short ones.
+#[test]
+fn pairs_about_memory() {
+    let mut checker = Checker::default();
+    let mut numbers = Numbers(2_645_751_311);
+    let mut words = vec![vec![], b"ab".to_vec(), b"aaabbb".to_vec()];
+    for (length, turns) in [(255, 2), (256, 2), (257, 2), (256, 3), (257, 3), (256, 5)] {
+        let units = units_of(&mut numbers, length);
+        let unit = &units[numbers.below(units.len())];
+        words.push(wound(unit, turns * length));
+        words.push([&[9; 3][..], &wound(unit, turns * length + 1)].concat());
+    }
+    let known = all_known(&words);
+    for a in &known {
+        for b in &known {
+            let longer = a.word.len().max(b.word.len());
+            for edition in EDITIONS {
+                checker.two(a, b, edition, 4 * (longer + 1));
+            }
+        }
+    }
+    checker.report("pairs about memory");
+}
+
+/// A unit of any length, twice over, is one square.
+#[test]
+fn squares_of_long_halves() {
+    let mut checker = Checker::default();
+    let mut numbers = Numbers(3_316_624_790);
+    for length in [255, 256, 257, 258, 700] {
+        for unit in units_of(&mut numbers, length) {
+            let w = unit.repeat(2);
+            long_squares(&mut checker, &mut numbers, &w, &[w.len() as u32]);
+            assert_eq!(
+                cegridom::best_squares(&w, Choice::Fewest),
+                Ok(vec![w.len() as u32])
+            );
+        }
+    }
+    checker.report("squares of long halves");
+}
+
 /// The same word one symbol too long for every call: 1 comes before anything else.
 #[test]
 fn words_over_the_limit() {
@@ -1766,6 +2151,13 @@ fn plan_lines() {
     checker.report("plan lines");
 }
 
+/// Makes a comparison in which a refusal is met; 0 is for accepted.
+fn expect(checker: &mut Checker, number: usize, make: &dyn Fn(&mut Checker)) {
+    let before = checker.met[number];
+    make(checker);
+    assert_eq!(checker.met[number], before + 1, "refusal {number}");
+}
+
 /// Each refusal of each call is met, and where two are, the first in the call's order is given.
 #[test]
 fn every_refusal_in_its_order() {
@@ -1777,11 +2169,6 @@ fn every_refusal_in_its_order() {
     let empty = Known::of(b"");
     let long = vec![b'a'; 4097];
     let too_long = Known::of(&long);
-    let expect = |checker: &mut Checker, number: usize, make: &dyn Fn(&mut Checker)| {
-        let before = checker.met[number];
-        make(checker);
-        assert_eq!(checker.met[number], before + 1, "refusal {number}");
-    };
     // part: 1, 12, 6, 7
     expect(&mut checker, 1, &|c| c.part(&long, 0, 0, 0, 0));
     expect(&mut checker, 1, &|c| c.part(&long, 1, 1, 8, 0));
@@ -2193,8 +2580,10 @@ impl Wrappers {
     }
 
     /// What the calls on squares promise of one another and of those on blocks, by the library's own
-    /// answers: a square is a block of edition 1, and a word twice over is a square.
+    /// answers: a square is a block of edition 1, where memory holds its half, and a word twice over is
+    /// a square.
     fn square_promises(&mut self, w: &[u8]) {
+        assert!(w.len() <= 2 * UNIT_MEMORY);
         let blocks = |choice| cegridom::best_split(w, Edition::One, choice).map(|ends| ends.len());
         let [fewest, most] = [Choice::Fewest, Choice::Most].map(|c| cegridom::best_squares(w, c));
         assert_eq!(fewest.is_ok(), most.is_ok());
@@ -2362,19 +2751,20 @@ impl Wrappers {
             self.agree(got, said(outcome, only));
             assert_eq!(ends[..front.len()], front);
             if got.is_ok() {
-                // A square is a block of edition 1.
+                // A square is a block of edition 1, where memory holds its unit.
                 self.most_blocks(w, Edition::One, &front);
             }
         }
     }
 
-    /// A split has no more ends than the most, and its path no more numbers.
+    /// A split has no more ends than the most, and its path no more numbers: 7 never comes.
     fn most_blocks(&mut self, w: &[u8], edition: Edition, ends: &[u32]) {
         let most = cegridom::most_ends(w.len());
         assert!(ends.len() <= most, "{w:?} {ends:?}");
         let mut lent = vec![GUARD; most];
         let got = cegridom::path_of_split_into(w, edition, ends, &mut lent);
-        self.agree(got, Ok(ends.len()));
+        let outcome = reference::judge_split_call(w, edition.number(), ends);
+        self.agree(got, said(outcome, only));
     }
 
     fn judges(&mut self, known: &Known, edition: Edition, ends: &[u32], numbers: &[u32]) {
@@ -2421,6 +2811,7 @@ fn wrappers() {
     let mut words: Vec<Vec<u8>> = structured(200);
     words.push(vec![b'a'; 4096]);
     words.push(vec![b'a'; 4097]);
+    words.extend([256, 257].map(|unit| one_and_zeros(unit).repeat(2)));
     every_word(2, 7, |w| words.push(w.to_vec()));
     let mut wrappers = Wrappers::default();
     for w in &words {
@@ -2579,8 +2970,8 @@ fn sizes_that_suffice() {
     }
     let mut every_split = |w: &[u8]| {
         for edition in [Edition::One, Edition::Two] {
-            let turns = reference::turns(edition.number()).unwrap();
-            for ends in reference::plain_splits(w, turns) {
+            let rule = Rule::of(edition.number()).unwrap();
+            for ends in reference::plain_splits(w, rule) {
                 wrappers.most_blocks(w, edition, &ends);
             }
         }

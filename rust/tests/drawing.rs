@@ -51,7 +51,9 @@ fn no_edge_runs_behind_a_node() {
 
 #[test]
 fn the_graph_has_the_white_nodes_of_the_library() {
-    for w in drawn() {
+    // A unit that a block may have, and one that is too long.
+    let about = [256, 257].map(|unit| last_differs(unit).repeat(2));
+    for w in drawn().into_iter().chain(about) {
         let graph = Graph::of(&w).unwrap();
         for position in 1..=w.len() {
             let here = graph.whites().filter(|white| white.position == position);

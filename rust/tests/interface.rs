@@ -96,6 +96,7 @@ fn a_length_over_32_bits_is_too_long() {
 
 #[test]
 fn sizes_do_not_overflow() {
+    assert_eq!(cegridom::UNIT_MEMORY, 256);
     assert_eq!(cegridom::work_places(LIMIT), 4 * (LIMIT + 1));
     assert_eq!(cegridom::work_places(usize::MAX), usize::MAX);
     assert_eq!(cegridom::page_bytes(usize::MAX), usize::MAX);

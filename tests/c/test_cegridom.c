@@ -65,6 +65,9 @@ static int begins(const uint32_t *places, const uint32_t *numbers, size_t count)
 /* A word of letters as pointer and length. */
 #define WORD(text) ((const uint8_t *)(text)), (sizeof(text) - 1)
 
+/* The longest unit that a block has. */
+#define UNIT_MEMORY 256
+
 /* Numbers that are no edition. */
 static const uint32_t no_editions[] = {0, 3, 4294967295u};
 #define NO_EDITIONS (sizeof no_editions / sizeof *no_editions)
@@ -88,8 +91,8 @@ static void test_message(void) {
         "no split exists",
         "an end not above the one before it (0 before the first), or above n",
         "the piece up to this end is not a block; for squares, not a square; for a path, no run "
-        "has that number, or the run does not enclose the piece, or the piece is shorter than 2 x "
-        "(edition 2: 3 x) the run's unit",
+        "has that number, or its unit is above 256, or the run does not enclose the piece, or the "
+        "piece is shorter than 2 x (edition 2: 3 x) the run's unit",
         "the last end (0 if there are none) is not n",
         "first below 1, last above n or first above last; for nodes, a position outside 1 to n",
         "fewer output places (for writing a plan or a page, bytes) than the answer needs",
@@ -774,13 +777,11 @@ static void squares_best(const struct squared *k) {
             squares_refused(k, k->choice, joints, 0, scratch, needed + 1, CEGRIDOM_TOO_FEW_PLACES);
             squares_refused(k, k->choice, NULL, 0, scratch, SCRATCH, CEGRIDOM_TOO_FEW_PLACES);
         }
-        /* the judge accepts it, and a square is a block of edition 1 */
+        /* the judge accepts it */
         reset();
         CHECK(cegridom_judge_squares(k->word, k->n, k->ends, size, &a, &index_) ==
               CEGRIDOM_ACCEPTED);
         CHECK(a == size && index_ == 0);
-        CHECK(cegridom_judge_split(k->word, k->n, CEGRIDOM_EDITION_1, k->ends, size, &a,
-                                   &index_) == CEGRIDOM_ACCEPTED);
     }
     /* 9 comes before 2 and 7 */
     squares_refused(k, k->choice, joints, JOINTS, scratch, needed - 1, CEGRIDOM_SHORT_TABLE);
@@ -788,6 +789,18 @@ static void squares_best(const struct squared *k) {
     squares_refused(k, k->choice, joints, JOINTS, NULL, 0, CEGRIDOM_SHORT_TABLE);
     for (size_t i = 0; i < NO_CHOICES; i++) {
         squares_refused_first(k, no_choices[i], CEGRIDOM_BAD_CHOICE);
+    }
+}
+
+/* The squares of a split judged as blocks of edition 1, which they are where memory holds their
+   units. */
+static void squares_as_blocks(const struct squared *k, uint32_t result, uint32_t index) {
+    uint32_t size = k->sizes[k->n];
+    if (size != CEGRIDOM_NONE) {
+        reset();
+        CHECK(cegridom_judge_split(k->word, k->n, CEGRIDOM_EDITION_1, k->ends, size, &a, &index_) ==
+              result);
+        CHECK(a == (result == CEGRIDOM_ACCEPTED ? size : 0) && index_ == index);
     }
 }
 
@@ -805,6 +818,7 @@ static void test_best_squares(void) {
             const struct squared k = {n > 0 ? (const uint8_t *)c->word : NULL, n, choice, sizes,
                                       c->best[choice - 1].ends};
             squares_best(&k);
+            squares_as_blocks(&k, CEGRIDOM_ACCEPTED, 0);
         }
     }
 }
@@ -825,6 +839,7 @@ static void test_long_squares(void) {
         const struct squared equal = {longest, CEGRIDOM_LIMIT, choice, sizes,
                                       choice == 1 ? &whole : pairs};
         squares_best(&equal);
+        squares_as_blocks(&equal, CEGRIDOM_ACCEPTED, 0);
         const struct squared odd = {longest, CEGRIDOM_LIMIT - 1, choice, sizes, NULL};
         squares_best(&odd);
         /* a...ab twice: a square that has a b has both */
@@ -834,6 +849,7 @@ static void test_long_squares(void) {
         }
         const struct squared half = {word, CEGRIDOM_LIMIT, choice, sizes, &whole};
         squares_best(&half);
+        squares_as_blocks(&half, CEGRIDOM_NOT_BLOCK, 1);
         const struct squared shorter = {word, CEGRIDOM_LIMIT - 2, choice, sizes, NULL};
         squares_best(&shorter);
         /* every symbol, twice each */
@@ -845,6 +861,7 @@ static void test_long_squares(void) {
         }
         const struct squared every = {twice, sizeof twice, choice, sizes, pairs};
         squares_best(&every);
+        squares_as_blocks(&every, CEGRIDOM_ACCEPTED, 0);
     }
     /* 1 comes before 8, 9 and 2 */
     const struct squared over = {longest, CEGRIDOM_LIMIT + 1, 0, NULL, NULL};
@@ -1046,15 +1063,17 @@ static void test_two_words(void) {
 
 /* Words of many blocks, of symbols above 127, that overlap, and of the limit's length. */
 static void test_long_pairs(void) {
-    static uint8_t twice[512], thrice[768], square[CEGRIDOM_LIMIT];
+    static uint8_t twice[512], thrice[768], square[CEGRIDOM_LIMIT], block[CEGRIDOM_LIMIT];
     for (size_t i = 0; i < sizeof twice; i++) {
         twice[i] = (uint8_t)(i / 2);
     }
     for (size_t i = 0; i < sizeof thrice; i++) {
         thrice[i] = (uint8_t)(i / 3);
     }
-    for (size_t i = 0; i < sizeof square; i++) {
+    /* the unit of the square is too long for a block */
+    for (size_t i = 0; i < CEGRIDOM_LIMIT; i++) {
         square[i] = i % 2048 == 2047 ? 254 : 255;
+        block[i] = i % UNIT_MEMORY == UNIT_MEMORY - 1 ? 254 : 255;
     }
     const struct layup first[] = {
         {NULL, 0, 0, 0},
@@ -1065,7 +1084,8 @@ static void test_long_pairs(void) {
         {thrice, 768, 256, 3},
         {thrice + 1, 767, 256, 2},
         {longest, CEGRIDOM_LIMIT, 1, CEGRIDOM_LIMIT},
-        {square, CEGRIDOM_LIMIT, 1, CEGRIDOM_LIMIT},
+        {block, CEGRIDOM_LIMIT, 1, CEGRIDOM_LIMIT},
+        {square, CEGRIDOM_LIMIT, CEGRIDOM_NONE, 0},
         {square + 2048, 2048, CEGRIDOM_NONE, 0},
     };
     const size_t firsts = sizeof first / sizeof *first;
@@ -1081,6 +1101,7 @@ static void test_long_pairs(void) {
         {thrice + 3, 765, 255, 3},
         {thrice + 1, 767, CEGRIDOM_NONE, 0},
         {longest, CEGRIDOM_LIMIT, 1, CEGRIDOM_LIMIT},
+        {block, CEGRIDOM_LIMIT, 1, CEGRIDOM_LIMIT},
         {square, CEGRIDOM_LIMIT, CEGRIDOM_NONE, 0},
     };
     const size_t seconds = sizeof second / sizeof *second;
@@ -1465,7 +1486,8 @@ static void test_longest_page(void) {
     }
     paged(word, CEGRIDOM_LIMIT, 1, ends, CEGRIDOM_MOST_ENDS(CEGRIDOM_LIMIT), text);
     /* a...ab as the unit; its equal symbols are run 1 */
-    static const uint32_t spans[] = {9, 10, 100, 1500, CEGRIDOM_LIMIT / 2};
+    static const uint32_t spans[] = {
+        9, 10, 100, UNIT_MEMORY, UNIT_MEMORY + 1, 1500, CEGRIDOM_LIMIT / 2};
     for (size_t i = 0; i < sizeof spans / sizeof *spans; i++) {
         for (uint32_t p = 0; p < CEGRIDOM_LIMIT; p++) {
             word[p] = p % spans[i] == spans[i] - 1 ? 'b' : 'a';
@@ -1473,7 +1495,138 @@ static void test_longest_page(void) {
         snprintf(text, sizeof text, "%6u%6u%6u%6u%6u%6u%6u%-18s\n", 1, 1, CEGRIDOM_LIMIT, spans[i],
                  CEGRIDOM_LIMIT / spans[i], CEGRIDOM_LIMIT % spans[i], 2,
                  spans[i] == 9 ? "616161616161616162" : "616161616161616161");
-        paged(word, CEGRIDOM_LIMIT, 1, NUMBERS(CEGRIDOM_LIMIT), 1, text);
+        if (spans[i] <= UNIT_MEMORY) {
+            paged(word, CEGRIDOM_LIMIT, 1, NUMBERS(CEGRIDOM_LIMIT), 1, text);
+        } else {
+            page_refused_first(word, CEGRIDOM_LIMIT, 1, NUMBERS(CEGRIDOM_LIMIT), 1,
+                               CEGRIDOM_NOT_BLOCK, 1);
+        }
+    }
+}
+
+/* So many symbols 2, and then one symbol 1 and symbols 0, which are the unit, all wound so many
+   turns. Gives the length. */
+static uint32_t wind(uint8_t *word, uint32_t before, uint32_t unit, uint32_t turns) {
+    uint32_t n = before + turns * unit;
+    for (uint32_t i = 0; i < n; i++) {
+        word[i] = i < before ? 2 : (i - before) % unit == 0;
+    }
+    return n;
+}
+
+/* Such a word of the edition's turns, with symbols 2 enough for a block or none: every symbol 1
+   lies in the one block of the unit, or in none where memory does not hold it. */
+static void held_or_not(uint32_t edition, uint32_t before, uint32_t unit) {
+    static uint8_t word[1024];
+    static char text[CEGRIDOM_PAGE_BYTES(2) + 1];
+    uint32_t turns = edition + 1, n = wind(word, before, unit, turns);
+    int held = unit <= UNIT_MEMORY;
+    uint32_t whole = before > 0 ? 2 : 1, result = held ? CEGRIDOM_ACCEPTED : CEGRIDOM_NOT_BLOCK;
+    uint32_t index = held ? 0 : whole, blocks = held ? whole : 0;
+    const uint32_t ends[] = {before > 0 ? before : n, n};
+    /* what part and runs say of it stays */
+    fill(table, TABLE_PLACES);
+    reset();
+    CHECK(cegridom_part(word, n, edition, before + 1, n, units, n - before, &a, &b, &c, &d,
+                        &index_) == CEGRIDOM_ACCEPTED);
+    CHECK(a == unit && b == turns && c == 0 && d == (uint32_t)held && index_ == 0);
+    CHECK(units[0] == 1 && units[n - before - 1] == unit && units[n - before] == GUARD);
+    fill(table, TABLE_PLACES);
+    reset();
+    CHECK(cegridom_runs(word, n, records, TABLE_PLACES - 2, &a, &index_) == CEGRIDOM_ACCEPTED);
+    const uint32_t row[] = {before + 1, n, unit, before + 2};
+    CHECK(a == whole + turns && index_ == 0);
+    CHECK(memcmp(records + CEGRIDOM_RUN_PLACES(whole - 1), row, sizeof row) == 0);
+    /* the last symbols 0 are a run too */
+    const uint32_t nodes[] = {whole, whole + turns};
+    fill(table, 4);
+    reset();
+    CHECK(cegridom_nodes(word, n, edition, n, table, 3, &a, &index_) == CEGRIDOM_ACCEPTED);
+    CHECK(a == 1 + (uint32_t)held && index_ == 0 && begins(table, nodes + !held, a));
+    /* the judges, the path and the page */
+    reset();
+    CHECK(cegridom_judge_split(word, n, edition, ends, whole, &a, &index_) == result);
+    CHECK(a == blocks && index_ == index);
+    fill(table, 4);
+    reset();
+    CHECK(cegridom_path_of_split(word, n, edition, ends, whole, table, 3, &a, &index_) == result);
+    CHECK(a == blocks && index_ == index);
+    CHECK(held ? begins(table, NUMBERS(1, 2), whole) : untouched(table, 4));
+    const uint32_t path[] = {1, ends[0], 2, n};
+    reset();
+    CHECK(cegridom_judge_path(word, n, edition, path, 2 * whole, &a, &index_) == result);
+    CHECK(a == blocks && index_ == index);
+    if (held) {
+        snprintf(text, sizeof text, "%6u%6u%6u%6u%6u%6u%6u%-18s\n", 1, 1, before, 1, before, 0, 1,
+                 "02");
+        snprintf(text + CEGRIDOM_PAGE_BYTES(whole - 1), CEGRIDOM_PAGE_BYTES(1) + 1,
+                 "%6u%6u%6u%6u%6u%6u%6u%-18s\n", whole, before + 1, n, unit, turns, 0, whole,
+                 "010000000000000000");
+        paged(word, n, edition, ends, whole, text);
+    } else {
+        page_refused_first(word, n, edition, ends, whole, CEGRIDOM_NOT_BLOCK, index);
+    }
+    /* it has this split or none */
+    for (uint32_t choice = 1; choice <= 2; choice++) {
+        fill(table, 4);
+        fill(work, WORK);
+        reset();
+        CHECK(cegridom_best_split(word, n, edition, choice, table, 3, work, CEGRIDOM_WORK_PLACES(n),
+                                  &a, &index_) == (held ? CEGRIDOM_ACCEPTED : CEGRIDOM_NO_SPLIT));
+        CHECK(a == blocks && index_ == 0 && work[n] == (held ? whole : CEGRIDOM_NONE));
+        CHECK(held ? begins(table, ends, whole) : untouched(table, 4));
+    }
+    const struct layup none = {WORD("ab"), CEGRIDOM_NONE, 0};
+    const struct layup equal = {longest, 3, 1, 3};
+    const struct layup known = {word, n, held ? whole : CEGRIDOM_NONE, held ? ends[0] : 0};
+    chosen(&none, &known, edition);
+    chosen(&known, &equal, edition);
+    chosen(&equal, &known, edition);
+}
+
+/* a...ab...b as the unit, of the edition's turns: one block, or its stretches of equal symbols
+   where memory does not hold the unit. */
+static void parted_or_not(uint32_t edition, uint32_t unit) {
+    static uint8_t word[1024];
+    uint32_t turns = edition + 1, n = turns * unit, ends[6], count = 0;
+    for (uint32_t i = 0; i < n; i++) {
+        word[i] = i % unit < 200 ? 'a' : 'b';
+    }
+    for (uint32_t i = 0; i < turns; i++) {
+        ends[count++] = i * unit + 200;
+        ends[count++] = i * unit + unit;
+    }
+    fill(table, 8);
+    reset();
+    CHECK(cegridom_best_split(word, n, edition, CEGRIDOM_FEWEST, table, 7, work, WORK, &a,
+                              &index_) == CEGRIDOM_ACCEPTED);
+    if (unit <= UNIT_MEMORY) {
+        CHECK(a == 1 && index_ == 0 && begins(table, &n, 1));
+    } else {
+        CHECK(a == count && index_ == 0 && begins(table, ends, count));
+    }
+}
+
+/* A unit that memory does not hold makes no block, and no white nodes; it makes a square. */
+static void test_unit_memory(void) {
+    static uint8_t word[1024];
+    static uint32_t sizes[1024];
+    for (uint32_t unit = UNIT_MEMORY - 1; unit <= UNIT_MEMORY + 2; unit++) {
+        for (uint32_t edition = 1; edition <= 2; edition++) {
+            held_or_not(edition, 0, unit);
+            held_or_not(edition, 3, unit);
+            parted_or_not(edition, unit);
+        }
+        uint32_t n = wind(word, 0, unit, 2);
+        for (uint32_t m = 0; m <= n; m++) {
+            sizes[m] = m == 0 ? 0 : m == n ? 1 : CEGRIDOM_NONE;
+        }
+        for (uint32_t choice = 1; choice <= 2; choice++) {
+            const struct squared k = {word, n, choice, sizes, &n};
+            squares_best(&k);
+            squares_as_blocks(&k, unit <= UNIT_MEMORY ? CEGRIDOM_ACCEPTED : CEGRIDOM_NOT_BLOCK,
+                              unit <= UNIT_MEMORY ? 0 : 1);
+        }
     }
 }
 
@@ -1483,7 +1636,8 @@ static void nodes_suffice(const uint8_t *word, size_t n, uint32_t edition, uint3
     uint32_t white = 0;
     for (uint32_t i = 0; i < count; i++) {
         const uint32_t *row = rows + CEGRIDOM_RUN_PLACES(i);
-        white += row[0] + (edition + 1) * row[2] - 1 <= position && position <= row[1];
+        white += row[2] <= UNIT_MEMORY && row[0] + (edition + 1) * row[2] - 1 <= position &&
+                 position <= row[1];
     }
     fill(table, n + 1);
     reset();
@@ -1525,8 +1679,8 @@ static void ends_suffice(const uint8_t *word, size_t n) {
             uint32_t size = work[n] == CEGRIDOM_NONE ? 0 : work[n];
             CHECK(result == (work[n] == CEGRIDOM_NONE ? CEGRIDOM_NO_SPLIT : CEGRIDOM_ACCEPTED));
             CHECK(a == size && index_ == 0 && size <= most && ends[most] == GUARD);
-            if (result == CEGRIDOM_ACCEPTED) {
-                /* a square is a block of edition 1 */
+            /* a square is a block of edition 1, where memory holds its unit */
+            if (result == CEGRIDOM_ACCEPTED && (edition > 0 || n <= 2 * UNIT_MEMORY)) {
                 fill(table, most + 1);
                 reset();
                 CHECK(cegridom_path_of_split(word, n, edition == 2 ? 2 : 1, ends, size, table, most,
@@ -1578,6 +1732,7 @@ static const struct rich_case rich_cases[] = {
 };
 
 static void test_sizes(void) {
+    CHECK(CEGRIDOM_UNIT_MEMORY == UNIT_MEMORY);
     CHECK(CEGRIDOM_MOST_RUN_PLACES(0) == 0 && CEGRIDOM_MOST_RUN_PLACES(1) == 4);
     CHECK(2 * CEGRIDOM_MOST_RUN_PLACES(1 + 2) == 24 && 24 / CEGRIDOM_MOST_RUN_PLACES(2) == 3);
     CHECK(CEGRIDOM_MOST_ENDS(0) == 0 && CEGRIDOM_MOST_ENDS(1) == 0 && CEGRIDOM_MOST_ENDS(2) == 1);
@@ -1707,6 +1862,7 @@ int main(void) {
     test_judge_path();
     test_write_page();
     test_longest_page();
+    test_unit_memory();
     test_sizes();
     test_write_plan();
     test_read_plan();

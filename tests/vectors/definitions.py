@@ -1,5 +1,5 @@
 #!/usr/bin/env python3
-"""The definitions and calls of document 01 and of document 02's items 1 to 4 and 6 to 8, as plainly as
+"""The definitions and calls of document 01 and of document 02's items 1 to 4 and 6 to 9, as plainly as
 the documents state them, for the expected outputs of the test programs. Nothing is taken from the
 library or from its runs.
 
@@ -19,6 +19,7 @@ LIMIT = 4096
 NONE = 4294967295
 FEWEST, MOST = 1, 2
 TURNS = {1: 2, 2: 3}  # k of each edition
+UNIT_MEMORY = 256  # the passes of the longest unit that a block has, in both editions
 SQUARES = "squares"
 
 
@@ -59,7 +60,10 @@ def is_square(part):
 
 
 def is_block(part, k):
-    return is_square(part) if k == SQUARES else len(part) >= k * unit(part)
+    if k == SQUARES:
+        return is_square(part)
+    p = unit(part)
+    return len(part) >= k * p and p <= UNIT_MEMORY
 
 
 def comes_before(part, other):
@@ -89,8 +93,8 @@ def root(word, first, p):
 @lru_cache(maxsize=None)
 def runs_of(word):
     """(first, last, unit, root) of each run, in the order of the run numbers: every first and last is
-    tried, and the two conditions are those of the document, with position 1 at place 0. Runs are
-    those of edition 1."""
+    tried, and the two conditions are those of the document, with position 1 at place 0. Runs have the
+    turns of edition 1, and units of any length."""
     n = len(word)
     found = []
     for first in range(1, n + 1):
@@ -98,7 +102,7 @@ def runs_of(word):
             part = word[first - 1 : last]
             p = unit(part)
             if (
-                is_block(part, TURNS[1])
+                len(part) >= TURNS[1] * p
                 and (first == 1 or word[first - 2] != word[first + p - 2])
                 and (last == n or word[last] != word[last - p])
             ):
@@ -126,7 +130,7 @@ def nodes_at(word, k, position):
     return [
         number
         for number, (first, last, p, _) in enumerate(runs_of(word), 1)
-        if first + k * p - 1 <= position <= last
+        if p <= UNIT_MEMORY and first + k * p - 1 <= position <= last
     ]
 
 
@@ -325,8 +329,9 @@ def path_of_split(word, edition, ends, table):
 
 
 def judge_path(word, edition, numbers):
-    """Judge a path: 1, 12, 10, then as for a split. 4 is: no run has that number, or the run does not
-    enclose the piece, or the piece is shorter than k × the run's unit."""
+    """Judge a path: 1, 12, 10, then as for a split. 4 is: no run has that number, or the run has no
+    nodes since its unit is too long, or it does not enclose the piece, or the piece is shorter than
+    k × the run's unit."""
     if len(word) > LIMIT:
         return refused(1)
     if edition not in TURNS:
@@ -339,7 +344,8 @@ def judge_path(word, edition, numbers):
         if not 1 <= number <= len(runs_of(word)):
             return False
         first, last, p, _ = runs_of(word)[number - 1]
-        return first <= a + 1 and b <= last and b - a >= TURNS[edition] * p
+        encloses = first <= a + 1 and b <= last
+        return p <= UNIT_MEMORY and encloses and b - a >= TURNS[edition] * p
 
     return verdict(len(word), numbers[1::2], fits)
 
@@ -710,6 +716,42 @@ def compare_runs(word):
         expect(q == first + rotations.index(min(rotations)), "root of", word, first, p)
 
 
+def compare_item_9():
+    """One pass of code 1 and 256 of code 0, all wound twice, is no block, and with 255 of code 0 it is
+    one; either is a square."""
+    for p, held in (256, True), (257, False):
+        word = (b"\x01" + bytes(p - 1)) * 2
+        n = len(word)
+        outcome, units = part(word, 1, 1, n, [7] * n)
+        expect(outcome == accepted(p, 2, 0, int(held)) and units[-1] == p, "part of unit", p)
+        outcome = accepted(1) if held else refused(4, 1)
+        expect(judge_split(word, 1, [n]) == outcome, "judged block of unit", p)
+        expect(judge_squares(word, [n]) == accepted(1), "judged square of unit", p)
+        expect((1, n, p, 2) in runs_by_unit(word), "run of unit", p)
+    # the longer one has no split
+    outcome, ends, _ = best_split(word, 1, FEWEST, [7], [7] * 4 * (n + 1))
+    expect((outcome, ends) == (refused(2), [7]), "fewest blocks of unit", p)
+
+
+def remember(passes):
+    """Sets what unit memory holds, and forgets what was worked out with another."""
+    global UNIT_MEMORY
+    UNIT_MEMORY = passes
+    for known in blocks_up_to, best_table, splits_of:
+        known.cache_clear()
+
+
+def compare_with_less_memory(words):
+    """No short word has a unit above what memory holds, so it is made smaller for a while."""
+    held = UNIT_MEMORY
+    for passes in 1, 2:
+        remember(passes)
+        for edition in TURNS:
+            for word in words:
+                compare_with_enumeration(word, edition)
+    remember(held)
+
+
 def compare_with_examples(edition):
     for word, *both in EXAMPLES[edition]:
         for choice, ends in zip((FEWEST, MOST), both):
@@ -751,6 +793,7 @@ def compare_with_document():
 def main():
     compare_with_document()
     compare_squares_with_examples()
+    compare_item_9()
     words = [bytes(letters) for n in range(9) for letters in product(b"ab", repeat=n)]
     # few of these have a split in edition 2
     longer = [word for word, *_ in EXAMPLES[2] if 8 < len(word)]
@@ -758,6 +801,7 @@ def main():
         compare_with_examples(edition)
         for word in words + longer:
             compare_with_enumeration(word, edition)
+    compare_with_less_memory(words)
     # codes on both sides of 127 too
     coded = words + [bytes(codes) for codes in product(b"\x01\x7f\x80", repeat=7)]
     for word in coded:
@@ -776,7 +820,7 @@ def main():
             compare_two_with_enumeration(a, b, edition)
     print(
         f"definitions: {len(words + longer)} words compared with the enumeration of their splits and"
-        f" paths, and {len(few) ** 2} pairs with that of their splits, in both editions;"
+        f" paths, {len(words)} of them also with less unit memory, and {len(few) ** 2} pairs with that of their splits, in both editions;"
         f" {len(set(squared))} words with that of their splits into squares;"
         f" the roots of {len(coded)} words with the rotations of their units"
     )

@@ -59,5 +59,5 @@ unfolding squaresJudgedOutcome verdict square?
 squares-judged = refl
 
 -- 0.8
-pub version-is-0-8 : version ≡ 8
-version-is-0-8 = refl
+pub version-is-0-9 : version ≡ 9
+version-is-0-9 = refl

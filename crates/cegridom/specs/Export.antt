@@ -44,6 +44,6 @@ PathHanded w edition ends t u = PathMeaning w edition ends t (pathOutcome w edit
 abbrev pub PageHanded : List ℕ → ℕ → List ℕ → List ℕ → List ℕ → Type 0
 PageHanded w edition ends t u = PageMeaning w edition ends t (pageOutcome w edition ends (length t)) u
 
--- 1,000 × the major number + the minor one, of version 0.8
+-- 1,000 × the major number + the minor one, of version 0.9
 abbrev pub version : ℕ
-version = 8
+version = 9

@@ -13,7 +13,7 @@ use lib.ListN.{length, drop, replicate, length-append, length-drop, length-repli
 use lib.Seq.{drop-at}
 use Rattle.answers.specs.declared.Refusal.the-variants.{TooLong, ShortTable, BadEdition}
 use Rattle.answers.specs.Outcome.{Outcome, limit}
-use Rattle.periods.specs.Period.{anyPeriod}
+use Rattle.periods.specs.Period.{heldPeriod}
 use Rattle.periods.specs.Edition.{Edition, turnsOf}
 use Rattle.periods.proofs.Editions.{test-of-edition, test-of-no-edition, edition?}
 use Rattle.factors.specs.Factorization.{Factorization, fewest, smallest, Cell, unreachable, reached, bestEnds}
@@ -98,14 +98,14 @@ module _ (a b : List ℕ) (edition : ℕ) (t : List ℕ) where
 module _ (k : ℕ) (w : List ℕ) where
   -- the ends of a word's smallest factorization
   abbrev pub endsOf : List ℕ
-  endsOf = bestEnds smallest (block? anyPeriod k w) (length w)
+  endsOf = bestEnds smallest (block? heldPeriod k w) (length w)
 
   -- what is known of its last boundary is right
   abbrev pub Known : Cell → Type 0
-  Known v = Answers smallest (Block anyPeriod k w) (length w) v endsOf
+  Known v = Answers smallest (Block heldPeriod k w) (length w) v endsOf
 
   pub last-known : Known (lastCell k w fewest)
-  last-known = word-answers k smallest w (length w)
+  last-known = word-answers heldPeriod k smallest w (length w)
 
   -- e is the end of the first block of that factorization
   abbrev pub FirstEnd : ℕ → Type 0
@@ -115,7 +115,7 @@ module _ (k : ℕ) (w : List ℕ) where
 first-end-within : (k : ℕ) (w : List ℕ) (e : ℕ) → FirstEnd k w e → e ≤ length w
 first-end-within k w e F = go (F .1 .0) (F .1 .1 .0 .factorization) (F .1 .1 .1)
   where
-    go : (es : List ℕ) → Factorization (Block anyPeriod k w) (length w) es → e ≡ endOf es 1 → e ≤ length w
+    go : (es : List ℕ) → Factorization (Block heldPeriod k w) (length w) es → e ≡ endOf es 1 → e ≤ length w
     go [] C q = omega arith
     go (x ∷ xs) C q = omega (arith, C .0 .0)
 

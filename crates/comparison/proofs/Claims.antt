@@ -16,7 +16,7 @@ use lib.Seq.{take-nil}
 use Rattle.answers.specs.declared.Refusal.the-variants.{TooLong, ShortTable, BadEdition}
 use Rattle.answers.specs.Outcome.{Outcome, accepted, refused, limit}
 use Rattle.answers.proofs.Claims.{refused-accepted}
-use Rattle.periods.specs.Period.{anyPeriod, Repetition}
+use Rattle.periods.specs.Period.{heldPeriod, Repetition}
 use Rattle.periods.specs.Edition.{badEdition?, turnsOf}
 use Rattle.factors.specs.Factorization.{Factorization, fewest, Cell, unreachable, reached}
 use Rattle.factors.specs.Table.{rows}
@@ -139,20 +139,20 @@ swap-work a b edition t = rw (max-comm (length b) (length a)) refl
 -- ---- the first block
 
 -- a word that is not empty has a first block, which is a block of k turns from its start on
-first-end-block : (k : ℕ) (w : List ℕ) (e : ℕ) → FirstEnd k w e → 0 < length w → Block anyPeriod k w 0 e
+first-end-block : (k : ℕ) (w : List ℕ) (e : ℕ) → FirstEnd k w e → 0 < length w → Block heldPeriod k w 0 e
 first-end-block k w e F h = go (F .1 .0) (F .1 .1 .0 .factorization) (F .1 .1 .1)
   where
-    go : (es : List ℕ) → Factorization (Block anyPeriod k w) (length w) es → e ≡ endOf es 1 → Block anyPeriod k w 0 e
+    go : (es : List ℕ) → Factorization (Block heldPeriod k w) (length w) es → e ≡ endOf es 1 → Block heldPeriod k w 0 e
     go [] C q = absurd (omega (arith, C))
-    go (x ∷ xs) C q = subst (Block anyPeriod k w 0) (sym q) (C .0)
+    go (x ∷ xs) C q = subst (Block heldPeriod k w 0) (sym q) (C .0)
 
-first-end-repeats : (k : ℕ) (w : List ℕ) (e : ℕ) → FirstEnd k w e → 0 < length w → Repetition anyPeriod k (take e w)
-first-end-repeats k w e F h = subst (λ (x : ℕ). Repetition anyPeriod k (take x w)) (sub-zero e) (first-end-block k w e F h .1)
+first-end-repeats : (k : ℕ) (w : List ℕ) (e : ℕ) → FirstEnd k w e → 0 < length w → Repetition heldPeriod k (take e w)
+first-end-repeats k w e F h = subst (λ (x : ℕ). Repetition heldPeriod k (take x w)) (sub-zero e) (first-end-block k w e F h .1)
 
 -- it is not empty
 first-end-some : (k : ℕ) (w : List ℕ) (e : ℕ) → FirstEnd k w e → 0 < length w → 0 < length (take e w)
 first-end-some k w e F h =
-    let B = first-end-block k w e F h in omega (arith, B .0, block-up anyPeriod k w 0 e B, length-take e w)
+    let B = first-end-block k w e F h in omega (arith, B .0, block-up heldPeriod k w 0 e B, length-take e w)
 
 -- why a first block is empty
 pub data NoBlock (a b : List ℕ) (o : Outcome) : Type 0 where
@@ -193,14 +193,14 @@ module _ (a b : List ℕ) (edition : ℕ) (t : List ℕ) where
       go (Refused r) h = refl
 
   -- CLAIM: any other is a block of the edition
-  pub first-block-repeats : (firstBlock a b edition (length t) ≡ [] → ⊥) → Repetition anyPeriod (turnsOf edition) (firstBlock a b edition (length t))
+  pub first-block-repeats : (firstBlock a b edition (length t) ≡ [] → ⊥) → Repetition heldPeriod (turnsOf edition) (firstBlock a b edition (length t))
   first-block-repeats n = go (compared a b edition (length t)) (choice-means a b edition t .found) n
     where
       some : (w : List ℕ) (e : ℕ) → (take e w ≡ [] → ⊥) → 0 < length w
       some [] e n = absurd (n (take-nil e))
       some (x ∷ w) e n = omega arith
 
-      go : (c : Chosen) → Found (turnsOf edition) a b c → (front a b (wordIn c) (lengthIn c) ≡ [] → ⊥) → Repetition anyPeriod (turnsOf edition) (front a b (wordIn c) (lengthIn c))
+      go : (c : Chosen) → Found (turnsOf edition) a b c → (front a b (wordIn c) (lengthIn c) ≡ [] → ⊥) → Repetition heldPeriod (turnsOf edition) (front a b (wordIn c) (lengthIn c))
       go (First e) F n = first-end-repeats (turnsOf edition) a e F (some a e n)
       go (Second e) F n = first-end-repeats (turnsOf edition) b e F (some b e n)
       go (Refused r) F n = absurd (n refl)

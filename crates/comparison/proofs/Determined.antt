@@ -12,7 +12,7 @@ use lib.Seq.{ext-getD}
 use Rattle.laws.proofs.Stores.{same-past}
 use Rattle.answers.specs.Outcome.{Outcome, accepted, refused, limit}
 use Rattle.answers.proofs.Claims.{refused-accepted}
-use Rattle.periods.specs.Period.{anyPeriod}
+use Rattle.periods.specs.Period.{heldPeriod}
 use Rattle.periods.specs.Edition.{turnsOf}
 use Rattle.factors.specs.Factorization.{fewest, smallest, Cell, unreachable, reached}
 use Rattle.factors.specs.Verdict.{endOf}
@@ -35,7 +35,7 @@ module _ (k : ℕ) (w : List ℕ) where
     where
       go : (v : Cell) → Known k w v → (p : ℕ) × (v ≡ reached s p)
       go unreachable A = absurd (A es (F .factorization))
-      go (reached t q) A = (q, ap (λ (x : ℕ). reached x q) (best-unique smallest (Block anyPeriod k w) (length w) t s (endsOf k w) es A F .0))
+      go (reached t q) A = (q, ap (λ (x : ℕ). reached x q) (best-unique smallest (Block heldPeriod k w) (length w) t s (endsOf k w) es A F .0))
 
   -- so does that there is none
   pub unsplittable-unreachable : Unsplittable k w → lastCell k w fewest ≡ unreachable
@@ -48,7 +48,7 @@ module _ (k : ℕ) (w : List ℕ) where
   -- the end of its first block is one only
   first-end-unique : (s : ℕ) (es : List ℕ) (e : ℕ) → Fewest k w s es → FirstEnd k w e → endOf es 1 ≡ e
   first-end-unique s es e F G =
-      ap (λ (x : List ℕ). endOf x 1) (best-unique smallest (Block anyPeriod k w) (length w) s (G .0) es (G .1 .0) F (G .1 .1 .0) .1) ∙ sym (G .1 .1 .1)
+      ap (λ (x : List ℕ). endOf x 1) (best-unique smallest (Block heldPeriod k w) (length w) s (G .0) es (G .1 .0) F (G .1 .1 .0) .1) ∙ sym (G .1 .1 .1)
 
 -- ---- which first
 

@@ -10,7 +10,7 @@ use native.Mathlib.Omega.{arith}
 use borrow.Author.Tests.{lt-ltb, le-ltb, ne-eqb}
 use lib.Dec.{eqb}
 use lib.ListN.{length, getD, take, drop, replicate, length-take}
-use Rattle.periods.specs.Period.{anyPeriod}
+use Rattle.periods.specs.Period.{heldPeriod}
 use Rattle.factors.specs.Factorization.{fewest, smallest, Cell, unreachable, reached, cell, bestEnds}
 use Rattle.factors.specs.Table.{none, rows, sizeIn, previous, filled, endsBack}
 use Rattle.factors.specs.Verdict.{endOf}
@@ -25,15 +25,15 @@ use Rattle.comparison.specs.Measure.{fewestSize, firstEnd, endIn, chosen
 use Rattle.comparison.specs.Calls.{longer, chosen}
 
 -- a table r that is filled for a word
-module _ (k : ℕ) (w t r : List ℕ) (is : r ≡ filled smallest (block? anyPeriod k w) (length w) t) (h : length w < none) where
+module _ (k : ℕ) (w t r : List ℕ) (is : r ≡ filled smallest (block? heldPeriod k w) (length w) t) (h : length w < none) where
   pub given-size : getD r (length w) 0 ≡ fewestSize k w
-  given-size = rw is (filled-size smallest (block? anyPeriod k w) (length w) t (length w) (omega arith))
+  given-size = rw is (filled-size smallest (block? heldPeriod k w) (length w) t (length w) (omega arith))
 
   pub given-end : endIn (length w) r ≡ firstEnd k w
   given-end = rw (is, filled-row smallest b n t, filled-size smallest b n t n (omega arith)) (go (cell smallest b n) refl)
     where
       b : ℕ → ℕ → Bool
-      b = block? anyPeriod k w
+      b = block? heldPeriod k w
 
       n : ℕ
       n = length w
@@ -62,10 +62,10 @@ measured-chosen k a b h l r s i t j e A B =
     e ∙ rw (A .0, A .1, B .0, B .1) (chosen-by-sizes (lastCell k a fewest) (lastCell k b fewest) (firstEnd k a) (firstEnd k b) (small a h) (small b l))
   where
     small : (w : List ℕ) → length w < none → Small (lastCell k w fewest)
-    small w h s p e = omega (arith, size-bound smallest (block? anyPeriod k w) (length w) s p e)
+    small w h s p e = omega (arith, size-bound smallest (block? heldPeriod k w) (length w) s p e)
 
 -- the table after both fills, u for the first word and v for the second: its length, and what follows the places of the longer word, are as they were
-module _ (k : ℕ) (a b t u : List ℕ) (room : rows * (longer a b + 1) ≤ length t) (first : u ≡ filled smallest (block? anyPeriod k a) (length a) t) where
+module _ (k : ℕ) (a b t u : List ℕ) (room : rows * (longer a b + 1) ≤ length t) (first : u ≡ filled smallest (block? heldPeriod k a) (length a) t) where
   left : length a ≤ longer a b
   left = le-max-left (length a) (length b)
 
@@ -73,18 +73,18 @@ module _ (k : ℕ) (a b t u : List ℕ) (room : rows * (longer a b + 1) ≤ leng
   right = le-max-right (length a) (length b)
 
   pub first-long : length u ≡ length t
-  first-long = ap length first ∙ filled-long smallest (block? anyPeriod k a) (length a) t (omega (arith, left))
+  first-long = ap length first ∙ filled-long smallest (block? heldPeriod k a) (length a) t (omega (arith, left))
 
-  module _ (v : List ℕ) (second : v ≡ filled smallest (block? anyPeriod k b) (length b) u) where
+  module _ (v : List ℕ) (second : v ≡ filled smallest (block? heldPeriod k b) (length b) u) where
     both-long : length v ≡ length t
-    both-long = ap length second ∙ filled-long smallest (block? anyPeriod k b) (length b) u (omega (arith, right, first-long)) ∙ first-long
+    both-long = ap length second ∙ filled-long smallest (block? heldPeriod k b) (length b) u (omega (arith, right, first-long)) ∙ first-long
 
     both-kept : drop (rows * (longer a b + 1)) v ≡ drop (rows * (longer a b + 1)) t
     both-kept =
         ap (drop (rows * (longer a b + 1))) second
-        ∙ filled-past smallest (block? anyPeriod k b) (length b) u (rows * (longer a b + 1)) (omega (arith, right))
+        ∙ filled-past smallest (block? heldPeriod k b) (length b) u (rows * (longer a b + 1)) (omega (arith, right))
         ∙ ap (drop (rows * (longer a b + 1))) first
-        ∙ filled-past smallest (block? anyPeriod k a) (length a) t (rows * (longer a b + 1)) (omega (arith, left))
+        ∙ filled-past smallest (block? heldPeriod k a) (length a) t (rows * (longer a b + 1)) (omega (arith, left))
 
     -- those places cleared to z
     pub both-cleared : (places : ℕ) (z : List ℕ) → places ≡ rows * (longer a b + 1) → z ≡ zeros v 0 places

@@ -9,7 +9,7 @@ use lib.Dec.{ltb, eqb}
 use lib.ListN.{length, getD, take, drop, replicate}
 use Rattle.answers.specs.declared.Refusal.the-variants.{TooLong, NoFactorization, ShortTable, BadEdition}
 use Rattle.answers.specs.Outcome.{Outcome, accepted, refused, refusal, limit}
-use Rattle.periods.specs.Period.{anyPeriod}
+use Rattle.periods.specs.Period.{heldPeriod}
 use Rattle.periods.specs.Edition.{Edition, badEdition?, turnsOf}
 use Rattle.factors.specs.Factorization.{fewest, smallest, Best, Cell, unreachable, reached}
 use Rattle.factors.specs.Table.{rows}
@@ -101,7 +101,7 @@ startIn p q word = cond (eqb word second) q p
 
 -- es are the ends of a word's fewest split, of s blocks
 abbrev pub Fewest : ℕ → List ℕ → ℕ → List ℕ → Type 0
-Fewest k w s es = Best smallest (Block anyPeriod k w) (length w) s es
+Fewest k w s es = Best smallest (Block heldPeriod k w) (length w) s es
 
 -- word u wins over word v: "If only one can be split it is that one", else the sizes of their fewest splits stand in a relation
 pub data Wins (R : ℕ → ℕ → Type 0) (k : ℕ) (u v : List ℕ) : Type 0 where

@@ -5,7 +5,7 @@ use Prim.Native.Nat.{ℕ}
 use lib.Dec.{ltb, eqb}
 use lib.ListN.{length, getD}
 use Rattle.answers.specs.declared.Refusal.the-variants.{NoFactorization}
-use Rattle.periods.specs.Period.{anyPeriod}
+use Rattle.periods.specs.Period.{heldPeriod}
 use Rattle.factors.specs.Factorization.{fewest, smallest, bestEnds}
 use Rattle.factors.specs.Table.{none, sizeIn, endsBack}
 use Rattle.factors.specs.Verdict.{endOf}
@@ -21,7 +21,7 @@ fewestSize k w = sizeIn (lastCell k w fewest)
 
 -- the end of the first block of that split, "the one that document 01's tie rule picks"; 0 where there is no block
 abbrev pub firstEnd : ℕ → List ℕ → ℕ
-firstEnd k w = endOf (bestEnds smallest (block? anyPeriod k w) (length w)) 1
+firstEnd k w = endOf (bestEnds smallest (block? heldPeriod k w) (length w)) 1
 
 -- the same in a filled table
 abbrev pub endIn : ℕ → List ℕ → ℕ

@@ -2,7 +2,7 @@
 ghost use mathlib.Core.Path.{_≡_};
 ghost use Prim.Native.Nat.{max};
 ghost use lib.ListN.{length, getD};
-ghost use Rattle.periods.specs.Period.{anyPeriod};
+ghost use Rattle.periods.specs.Period.{heldPeriod};
 ghost use Rattle.periods.specs.Edition.{Edition, turnsOf};
 ghost use Rattle.factors.specs.Factorization.{smallest};
 ghost use Rattle.factors.specs.Table.{filled};
@@ -40,7 +40,7 @@ fn read_off(work: &[u32], n: usize) -> Measured
 fn measure(w: &[u8], edition: u32, work: &mut [u32]) -> Measured
     requires { ⌜ Workable (now w) (now work) × Edition edition ⌝ }
     ensures { λ r. ⌜ (r .size ≡ fewestSize (turnsOf edition) (now (w .entry))) × (r .end ≡ firstEnd (turnsOf edition) (now (w .entry))) ⌝ }
-    ensures { λ _. ⌜ now (work .exit) ≡ filled smallest (block? anyPeriod (turnsOf edition) (now (w .entry))) (length (now (w .entry))) (now (work .entry)) ⌝ }
+    ensures { λ _. ⌜ now (work .exit) ≡ filled smallest (block? heldPeriod (turnsOf edition) (now (w .entry))) (length (now (w .entry))) (now (work .entry)) ⌝ }
 {
     factorizer::inner::fill(w, factorizer::rule_of(edition), factors::FEWEST, work);
     read_off(work, w.len())

@@ -25,7 +25,7 @@ pub enum Chosen {
 // Which first: 1 or 2 for the word that has fewer blocks in its fewest split. The first wins a tie;
 // if only one can be split it is that one. With n the longer length, the first 4 × (n + 1) places of
 // the working table are 0 afterwards, also after 2. Refusals: 1 for either, 12, 9 for the longer, 2.
-// Time: that of two fewest splits; under 400 bytes of stack.
+// Time: that of two fewest splits; under 450 bytes of stack.
 pub fn which_first(a: &[u8], b: &[u8], edition: u32, work: &mut [u32]) -> Counted
     ensures answer { λ r. ⌜ countedView r ≡ whichOutcome (now (a .entry)) (now (b .entry)) edition (length (now (work .entry))) ⌝ }
     ensures worked { λ _. ⌜ now (work .exit) ≡ whichWork (now (a .entry)) (now (b .entry)) edition (now (work .entry)) ⌝ }

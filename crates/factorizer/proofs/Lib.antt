@@ -1,6 +1,10 @@
 pub mod Pieces
 pub mod Rules
+mod LongBlocks
 pub mod FillLaws
+mod Windows
+mod Visits
+mod Passing
 pub mod Filled
 pub mod BestClaims
 pub mod JudgeClaims

@@ -14,9 +14,9 @@ use Rattle.factorizer.specs.Rule.{spanTest}
 abbrev pub unitAt : ℕ → List ℕ → ℕ → ℕ
 unitAt n t d = getD t (n + 1 + (n + 1) + d) 0
 
--- the units of the parts after boundary j are not 0, and never fall as the part grows
+-- the units of the parts of up to `len` symbols are not 0, and never fall as the part grows
 abbrev pub UnitsRise : ℕ → ℕ → List ℕ → Type 0
-UnitsRise n j t = ((d : ℕ) → d < n - j → 1 ≤ unitAt n t d) × ((d e : ℕ) → d ≤ e → e < n - j → unitAt n t d ≤ unitAt n t e)
+UnitsRise n len t = ((d : ℕ) → d < len → 1 ≤ unitAt n t d) × ((d e : ℕ) → d ≤ e → e < len → unitAt n t d ≤ unitAt n t e)
 
 -- the word is within the limit, and the working table has its four rows
 abbrev pub Workable : List ℕ → List ℕ → Type 0

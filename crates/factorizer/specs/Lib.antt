@@ -3,3 +3,4 @@ pub mod Best
 pub mod Judge
 pub mod Rule
 pub mod Fill
+pub mod Window

@@ -4,7 +4,7 @@ use mathlib.Core.Bool.{Bool, true, false}
 use mathlib.Core.List.{List}
 use Prim.Native.Nat.{ℕ, _%_}
 use lib.Dec.{leb, eqb}
-use Rattle.periods.specs.Period.{repetition?, anyPeriod}
+use Rattle.periods.specs.Period.{repetition?, heldPeriod}
 use Rattle.periods.specs.Square.{twice, square?}
 use Rattle.periods.specs.Edition.{Turns, turnsOf}
 use Rattle.factorizer.specs.declared.Rule.{Rule}
@@ -24,7 +24,7 @@ Ruled square k = Turns k × (square ≡ true → k ≡ twice)
 -- whether a word is a block of this kind; k counts for repetitions alone
 abbrev pub kind? : Bool → ℕ → List ℕ → Bool
 kind? true k s = square? s
-kind? false k s = repetition? anyPeriod k s
+kind? false k s = repetition? heldPeriod k s
 
 -- the same by a rule
 abbrev pub blockBy : Rule → List ℕ → Bool

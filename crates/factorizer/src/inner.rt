@@ -1,6 +1,6 @@
 // For the library's own crates: the caller shows what each function requires.
 ghost use mathlib.Core.Path.{_≡_};
-ghost use Prim.Native.Nat.{_≤_, _<_, _+_, _-_, _*_};
+ghost use Prim.Native.Nat.{min, _≤_, _<_, _+_, _-_, _*_};
 ghost use lib.ListN.{length, getD};
 ghost use Rattle.answers.specs.Outcome.{countedView, limit};
 ghost use Rattle.periods.specs.Edition.{Turns};
@@ -9,6 +9,7 @@ ghost use Rattle.factors.specs.Table.{rows, spread, filled};
 ghost use Rattle.factorizer.specs.Piece.{piece?};
 ghost use Rattle.factorizer.specs.Rule.{Ruled, blockBy, spanTest};
 ghost use Rattle.factorizer.specs.Fill.{UnitsRise, Workable, endsBlock, Readable, handedOutcome, handedEnds};
+ghost use Rattle.factorizer.specs.Window.{windowOf, Windowed, RestKept, lengthened};
 ghost use Rattle.factorizer.specs.Best.{sizeOutcome, wholeCell, settledEnds, settledWork, chosenOutcome, chosenEnds, chosenWork};
 ghost use Rattle.factorizer.specs.Judge.{pieceVerdict};
 use super::Rule;
@@ -28,16 +29,15 @@ fn ends_block(square: bool, len: usize, span: usize) -> bool
     span <= len
 }
 
-// Offers a size from boundary j to each boundary at which a block that starts there ends. Row 2 has
-// the units of the parts after boundary j; they never fall, so the first that is too long for any
-// part ends the work.
-fn spread(work: &mut [u32], n: usize, rule: Rule, choice: u32, j: usize, size: u32)
-    requires { ⌜ (n ≤ limit) × (j ≤ n) × (rows * (n + 1) ≤ length (now work)) × UnitsRise n j (now work) × Turns (rule .turns) ⌝ }
-    ensures { λ _. ⌜ now (work .exit) ≡ spread (choiceOf choice) n j size (endsBlock (rule .square) (rule .turns) n (now (work .entry))) (n - j) (now (work .entry)) ⌝ }
+// Offers a size from boundary j to each of the next len boundaries at which a block that starts there
+// ends. Row 2 has the units of the parts after boundary j; they never fall, so the first that is too
+// long for any part ends the work.
+fn spread(work: &mut [u32], n: usize, rule: Rule, choice: u32, j: usize, len: usize, size: u32)
+    requires { ⌜ (n ≤ limit) × (j + len ≤ n) × (rows * (n + 1) ≤ length (now work)) × UnitsRise n len (now work) × Turns (rule .turns) ⌝ }
+    ensures { λ _. ⌜ now (work .exit) ≡ spread (choiceOf choice) n j size (endsBlock (rule .square) (rule .turns) n (now (work .entry))) len (now (work .entry)) ⌝ }
 {
     let row = n + 1;
     let units = row + row;
-    let len = n - j;
     let mut d: usize = 0;
     while d < len {
         let span = rule.turns * (work[units + d] as usize);
@@ -53,10 +53,79 @@ fn spread(work: &mut [u32], n: usize, rule: Rule, choice: u32, j: usize, size: u
     }
 }
 
+// How many symbols after a boundary are read at most. A block that is longer goes on with a period of
+// those that are read; a square may have any length, so all that follows is read.
+fn window(rule: Rule) -> usize
+    requires { ⌜ Turns (rule .turns) ⌝ }
+    ensures { λ r. ⌜ r ≡ windowOf (rule .square) (rule .turns) ⌝ }
+{
+    if rule.square {
+        return answers::LIMIT;
+    }
+    rule.turns * periods::UNIT_MEMORY
+}
+
+fn lesser(a: usize, b: usize) -> usize
+    ensures { λ r. ⌜ r ≡ min a b ⌝ }
+{
+    if a < b {
+        return a;
+    }
+    b
+}
+
+// Takes boundary j: if it is reached, offers its size and one more wherever a block from it ends in the
+// window. The part call is lent row 2 and writes the units of the window, which are the same in every
+// edition; what it answers is not needed. Gives the unit of the window, or what is known where the
+// boundary is not reached.
+fn visit(w: &[u8], rule: Rule, choice: u32, j: usize, known: usize, work: &mut [u32]) -> usize
+    requires { ⌜ Workable (now w) (now work) × Ruled (rule .square) (rule .turns) × (j < length (now w)) ⌝ }
+    requires { ⌜ Windowed (choiceOf choice) (piece? (blockBy rule) (now w)) (now w) (windowOf (rule .square) (rule .turns)) j j known (now work) ⌝ }
+    ensures { λ r. ⌜ Windowed (choiceOf choice) (piece? (blockBy rule) (now (w .entry))) (now (w .entry)) (windowOf (rule .square) (rule .turns)) (j + 1) j r (now (work .exit)) ⌝ }
+    ensures { λ _. ⌜ RestKept (length (now (w .entry))) (now (work .entry)) (now (work .exit)) ⌝ }
+{
+    let size = work[j];
+    if size == NONE {
+        return known;
+    }
+    let n = w.len();
+    let row = n + 1;
+    let two = row + row;
+    let three = two + row;
+    let len = lesser(window(rule), n - j);
+    periods::part(
+        w,
+        periods::FIRST_EDITION,
+        (j + 1) as u32,
+        (j + len) as u32,
+        &mut work[two..three],
+    );
+    spread(work, n, rule, choice, j, len, size + 1);
+    work[two + (len - 1)] as usize
+}
+
+// Passes the blocks that end at boundary m, where a window ends, on to the next boundary if a period
+// of the window goes on there: all of them go on, or none.
+fn lengthen(w: &[u8], m: usize, period: usize, work: &mut [u32])
+    requires { ⌜ Workable (now w) (now work) × (period ≤ m) ⌝ }
+    ensures { λ _. ⌜ now (work .exit) ≡ lengthened (now (w .entry)) m period (now (work .entry)) ⌝ }
+{
+    let n = w.len();
+    if n <= m {
+        return;
+    }
+    if w[m] != w[m - period] {
+        return;
+    }
+    let row = n + 1;
+    let next = m + 1;
+    work[next] = work[m];
+    work[row + next] = work[row + m];
+}
+
 // Fills the working table: the best size of each prefix length, and the previous boundary that it
-// came from. Boundaries in rising order; one that is not reached offers nothing. The part call is
-// lent row 2 and writes the units of what follows the boundary, which are the same in every edition;
-// what it answers is not needed.
+// came from. Boundaries in rising order; one that is not reached offers nothing. Time: the product of
+// the word's length and the window at most.
 pub fn fill(w: &[u8], rule: Rule, choice: u32, work: &mut [u32])
     requires { ⌜ Workable (now w) (now work) × Ruled (rule .square) (rule .turns) ⌝ }
     ensures { λ _. ⌜ now (work .exit) ≡ filled (choiceOf choice) (piece? (blockBy rule) (now (w .entry))) (length (now (w .entry))) (now (work .entry)) ⌝ }
@@ -64,24 +133,14 @@ pub fn fill(w: &[u8], rule: Rule, choice: u32, work: &mut [u32])
     let n = w.len();
     let row = n + 1;
     let two = row + row;
-    let three = two + row;
     factors::inner::start(work, n);
     factors::inner::clear(&mut work[row..two]);
+    let window = window(rule);
+    let mut unit: usize = 0;
     let mut j: usize = 0;
     while j < n {
-        let size = work[j];
-        if size == NONE {
-            j += 1;
-            continue;
-        }
-        periods::part(
-            w,
-            periods::FIRST_EDITION,
-            (j + 1) as u32,
-            n as u32,
-            &mut work[two..three],
-        );
-        spread(work, n, rule, choice, j, size + 1);
+        unit = visit(w, rule, choice, j, unit, work);
+        lengthen(w, j + window, unit, work);
         j += 1;
     }
     let four = two + two;
@@ -146,13 +205,13 @@ pub fn best(w: &[u8], rule: Rule, choice: u32, ends: &mut [u32], work: &mut [u32
 
 // Whether a part is a block.
 fn is_block(part: &[u8], rule: Rule) -> bool
-    requires { ⌜ (0 < length (now part)) × (length (now part) ≤ limit) × Turns (rule .turns) ⌝ }
+    requires { ⌜ Turns (rule .turns) ⌝ }
     ensures { λ r. ⌜ r ≡ blockBy rule (now (part .entry)) ⌝ }
 {
     if rule.square {
         return periods::is_square(part);
     }
-    rule.turns * periods::smallest_period(part) <= part.len()
+    periods::inner::block_unit(part, rule.turns) != 0
 }
 
 // The judge of a split of a word within the limit: accepted, with the number of blocks, exactly when

@@ -1,20 +1,20 @@
--- A factorizer that takes the boundaries in rising order and offers from each that is reached to every boundary where a block from it ends fills the table:
--- rows 0 and 1 then hold the cells. Before boundary j is taken, the places of the boundaries up to j hold their cells, and those of a boundary m above j the
--- best over the previous boundaries below j. Assumes nothing.
-use mathlib.Core.Path.{_≡_, refl, sym, ap, _∙_, subst}
+-- What a factorizer that takes the boundaries in rising order goes by. A place after the offers from one boundary: what it held, with one more candidate counted
+-- in. The best over the candidates for two boundaries that the same blocks reach, and for one that none reaches. And when all places hold their cells,
+-- rows 0 and 1 are those of a filled table. Assumes nothing.
+use mathlib.Core.Path.{_≡_, refl, sym, ap, ap₂, _∙_, subst}
 use mathlib.Core.Logic.{_≢_}
 use mathlib.Core.Bool.{Bool, true, false, cond}
 use mathlib.Core.List.{List, _++_}
-use Prim.Native.Nat.{ℕ, zero, suc, _+_, _-_, _≤_, _<_}
+use Prim.Native.Nat.{ℕ, zero, suc, _+_, _≤_, _<_}
 use native.Mathlib.Omega.{arith}
 use native.Mathlib.Numerals.{add-one}
-use native.Mathlib.Decide.{decLe}
+use native.Mathlib.Decide.{ℕ-discrete}
 use lib.ListN.{length, getD, set, take, drop, length-take, length-drop}
 use lib.Seq.{getD-take, getD-drop, drop-set-lt, take-add}
-use Rattle.factors.specs.Factorization.{Choice, Cell, unreachable, reached, scan, cell}
-use Rattle.factors.specs.Table.{none, sizeIn, previousIn, sizes, previous, started, offered, taken, spread}
-use Rattle.factors.proofs.Optimal.{unreachable-reached, cell-zero, cell-suc, size-bound, scan-no-block, scan-unreachable, scan-block}
-use Rattle.factors.proofs.TableLaws.{Holds, holds-none, holds-reached, holds-same, started-zero, started-within, offered-cell, offered-others, offered-other, length-offered, sizes-are, previous-are}
+use Rattle.factors.specs.Factorization.{Choice, Cell, unreachable, reached, offer, scan, cell}
+use Rattle.factors.specs.Table.{none, sizeIn, previousIn, Holds, sizes, previous, started, offered, taken, spread}
+use Rattle.factors.proofs.Optimal.{unreachable-reached, cell-zero, size-bound, scan-no-block, scan-unreachable}
+use Rattle.factors.proofs.TableLaws.{started-zero, started-within, offered-cell, offered-others, offered-other, length-offered, sizes-are, previous-are}
 
 -- ---- what a spread keeps
 
@@ -82,140 +82,103 @@ module _ (c : Choice) (n j s : ℕ) (ends : ℕ → Bool) (t : List ℕ) where
       go true e = kept (taken c s (getD u at 0)) e
       go false e = e
 
--- ---- the table while it is filled
+-- ---- a place after a spread
+
+module _ (c : Choice) (n j s q : ℕ) (ends : ℕ → Bool) (t : List ℕ) (room : n + 1 + (n + 1) ≤ length t) (small : suc s < none) where
+  -- one that is not offered anything
+  pub spread-outside : (d m : ℕ) (v : Cell) → j + d ≤ n → m ≤ n → ((i : ℕ) → i < d → m ≢ j + (i + 1)) → Holds t m (n + 1 + m) v
+      → Holds (spread c n j (suc s) ends d t) m (n + 1 + m) v
+  unfolding spread
+  spread-outside zero m v a h o H = H
+  spread-outside (suc d) m v a h o H = go (ends d) (o d (omega arith)) (spread-outside d m v (omega arith) h (λ i l. o i (omega arith)) H)
+    where
+      u : List ℕ
+      u = spread c n j (suc s) ends d t
+
+      go : (x : Bool) → m ≢ j + (d + 1) → Holds u m (n + 1 + m) v → Holds (cond x (offered c (j + (d + 1)) (n + 1 + (j + (d + 1))) (suc s) j u) u) m (n + 1 + m) v
+      go true ne K = offered-others c (j + (d + 1)) (n + 1 + (j + (d + 1))) (suc s) j u m (n + 1 + m) v ne (omega arith) (omega arith) (omega arith) K
+      go false ne K = K
+
+  -- one within reach
+  pub spread-inside : (d i : ℕ) (v : Cell) → j + d ≤ n → i < d → Holds t (j + (i + 1)) (n + 1 + (j + (i + 1))) v
+      → Holds (spread c n j (suc s) ends d t) (j + (i + 1)) (n + 1 + (j + (i + 1))) (offer c j v (ends i) (reached s q))
+  unfolding spread
+  spread-inside zero i v a h H = absurd (omega arith)
+  spread-inside (suc d) i v a h H = by (ℕ-discrete i d) (λ l. spread-inside d i v (omega arith) l H)
+    where
+      u : List ℕ
+      u = spread c n j (suc s) ends d t
+
+      here : (x : Bool) → Holds u (j + (d + 1)) (n + 1 + (j + (d + 1))) v
+          → Holds (cond x (offered c (j + (d + 1)) (n + 1 + (j + (d + 1))) (suc s) j u) u) (j + (d + 1)) (n + 1 + (j + (d + 1))) (offer c j v x (reached s q))
+      here true K =
+          offered-cell c (j + (d + 1)) (n + 1 + (j + (d + 1))) s j u q v (omega arith) (omega (arith, length-spread c n j (suc s) ends t d))
+          (omega (arith, length-spread c n j (suc s) ends t d)) small K
+      here false K = K
+
+      later : (x : Bool) → i ≢ d → Holds u (j + (i + 1)) (n + 1 + (j + (i + 1))) (offer c j v (ends i) (reached s q))
+          → Holds (cond x (offered c (j + (d + 1)) (n + 1 + (j + (d + 1))) (suc s) j u) u) (j + (i + 1)) (n + 1 + (j + (i + 1))) (offer c j v (ends i) (reached s q))
+      later true ne K =
+          offered-others c (j + (d + 1)) (n + 1 + (j + (d + 1))) (suc s) j u (j + (i + 1)) (n + 1 + (j + (i + 1))) (offer c j v (ends i) (reached s q))
+          (omega arith) (omega arith) (omega arith) (omega arith) K
+      later false ne K = K
+
+      by : Dec (i ≡ d) → (i < d → Holds u (j + (i + 1)) (n + 1 + (j + (i + 1))) (offer c j v (ends i) (reached s q)))
+          → Holds (cond (ends d) (offered c (j + (d + 1)) (n + 1 + (j + (d + 1))) (suc s) j u) u) (j + (i + 1)) (n + 1 + (j + (i + 1))) (offer c j v (ends i) (reached s q))
+      by (yes e) ih =
+          subst (λ (x : ℕ). Holds (cond (ends d) (offered c (j + (d + 1)) (n + 1 + (j + (d + 1))) (suc s) j u) u) (j + (x + 1)) (n + 1 + (j + (x + 1))) (offer c j v (ends x) (reached s q))) (sym e)
+          (here (ends d) (spread-outside d (j + (d + 1)) v (omega arith) (omega arith) (λ x l. omega arith)
+          (subst (λ (x : ℕ). Holds t (j + (x + 1)) (n + 1 + (j + (x + 1))) v) e H)))
+      by (no ne) ih = later (ends d) ne (ih (omega arith))
+
+-- ---- scans
+
+module _ (c : Choice) (b : ℕ → ℕ → Bool) (table : ℕ → Cell) where
+  -- two boundaries that the same blocks reach
+  pub scan-same : (m x k : ℕ) → ((i : ℕ) → i < k → b i m ≡ b i x) → scan c b table m k ≡ scan c b table x k
+  scan-same m x zero h = refl
+  scan-same m x (suc k) h =
+      ap₂ (λ (v : Cell) (y : Bool). offer c k v y (table k)) (scan-same m x k (λ i l. h i (omega arith))) (h k (omega arith))
+
+  -- one that no block from a reached boundary reaches
+  pub scan-nothing : (m k : ℕ) → ((i : ℕ) → i < k → (table i ≡ unreachable → ⊥) → b i m ≡ false) → scan c b table m k ≡ unreachable
+  scan-nothing m zero h = refl
+  scan-nothing m (suc k) h = go (scan-nothing m k (λ i l. h i (omega arith))) (table k) refl
+    where
+      go : scan c b table m k ≡ unreachable → (v : Cell) → table k ≡ v → scan c b table m (suc k) ≡ unreachable
+      go ih unreachable e = scan-unreachable c b table m k e ∙ ih
+      go ih (reached s q) e = scan-no-block c b table m k (h k (omega arith) (λ z. unreachable-reached (table k) s q z e)) ∙ ih
+
+-- ---- the rows
 
 module _ (c : Choice) (b : ℕ → ℕ → Bool) (n : ℕ) where
-  -- before boundary j is taken
-  pub record Scanned (j : ℕ) (t : List ℕ) : Type 0 where
-    pub upto : (m : ℕ) → m ≤ n → m ≤ j → Holds t m (n + 1 + m) (cell c b m)
-    pub above : (m : ℕ) → m ≤ n → j < m → Holds t m (n + 1 + m) (scan c b (cell c b) m j)
+  -- a table that agrees with the started one in row 0 and has zeros in row 1
+  module _ (t u : List ℕ) (front : (i : ℕ) → i ≤ n → getD u i 0 ≡ getD (started n t) i 0) (zeros : (i : ℕ) → n < i → i < n + 1 + (n + 1) → getD u i 0 ≡ 0) where
+    pub start-first : Holds u 0 (n + 1 + 0) (cell c b 0)
+    start-first = record {
+      size = front 0 (omega arith) ∙ started-zero n t ∙ sym (ap sizeIn (cell-zero c b));
+      previous = zeros (n + 1 + 0) (omega arith) (omega arith) ∙ sym (ap previousIn (cell-zero c b));
+      bound = λ s p e. omega (arith, size-bound c b 0 s p e);
+    }
 
-  -- the places of both rows are all that counts
-  pub scanned-same : (j : ℕ) (t u : List ℕ) → ((i : ℕ) → i < n + 1 + (n + 1) → getD u i 0 ≡ getD t i 0) → Scanned j t → Scanned j u
-  scanned-same j t u e S = record {
-    upto = λ m h k. holds-same t m (n + 1 + m) u (cell c b m) (e m (omega arith)) (e (n + 1 + m) (omega arith)) (S .upto m h k);
-    above = λ m h k. holds-same t m (n + 1 + m) u (scan c b (cell c b) m j) (e m (omega arith)) (e (n + 1 + m) (omega arith)) (S .above m h k);
-  }
+    pub start-others : (m : ℕ) → m ≤ n → 0 < m → Holds u m (n + 1 + m) unreachable
+    start-others m h k = record {
+      size = front m h ∙ started-within n t m k h;
+      previous = zeros (n + 1 + m) (omega arith) (omega arith);
+      bound = λ s p e. absurd (unreachable-reached unreachable s p refl e);
+    }
 
-  pub scanned-start : (t u : List ℕ) → ((i : ℕ) → i ≤ n → getD u i 0 ≡ getD (started n t) i 0) → ((i : ℕ) → n < i → i < n + 1 + (n + 1) → getD u i 0 ≡ 0) → Scanned 0 u
-  scanned-start t u a z = record { upto = upto; above = above }
-    where
-      -- a table that agrees with the started one in row 0 and has zeros in row 1
-      zeroed : (m : ℕ) → m ≤ n → getD u (n + 1 + m) 0 ≡ 0
-      zeroed m h = z (n + 1 + m) (omega arith) (omega arith)
-
-      upto : (m : ℕ) → m ≤ n → m ≤ 0 → Holds u m (n + 1 + m) (cell c b m)
-      upto zero h k = record { size = a 0 (omega arith) ∙ started-size ∙ sym (ap sizeIn (cell-zero c b)); previous = zeroed 0 h ∙ sym (ap previousIn (cell-zero c b)); bound = bound }
-        where
-          started-size : getD (started n t) 0 0 ≡ 0
-          started-size = started-zero n t
-
-          bound : (s p : ℕ) → cell c b 0 ≡ reached s p → s < none
-          bound s p e = omega (arith, size-bound c b 0 s p e)
-      upto (suc m) h k = absurd (omega arith)
-
-      above : (m : ℕ) → m ≤ n → 0 < m → Holds u m (n + 1 + m) unreachable
-      above m h k = record {
-        size = a m h ∙ started-within n t m k h;
-        previous = zeroed m h;
-        bound = λ s p e. absurd (unreachable-reached unreachable s p refl e);
-      }
-
-  -- one more boundary taken: from the places of the boundaries above j with the candidate j counted in
-  taken-one : (j : ℕ) (t : List ℕ) → ((m : ℕ) → m ≤ n → m ≤ j → Holds t m (n + 1 + m) (cell c b m))
-      → ((m : ℕ) → m ≤ n → j < m → Holds t m (n + 1 + m) (scan c b (cell c b) m (suc j))) → Scanned (suc j) t
-  taken-one j t low high = record { upto = λ m h k. upto m h k (decLe m j); above = λ m h k. high m h (omega arith) }
-    where
-      upto : (m : ℕ) → m ≤ n → m ≤ suc j → Dec (m ≤ j) → Holds t m (n + 1 + m) (cell c b m)
-      upto m h k (yes x) = low m h x
-      upto m h k (no x) =
-          let e : m ≡ suc j = omega arith in
-          rw e (subst (λ (v : Cell). Holds t (suc j) (n + 1 + suc j) v) (sym (cell-suc c b j)) (high (suc j) (omega arith) (omega arith)))
-
-  -- an unreachable boundary offers nothing
-  pub scanned-skip : (j : ℕ) (t : List ℕ) → j ≤ n → getD t j 0 ≡ none → Scanned j t → Scanned (suc j) t
-  scanned-skip j t h e S =
-      taken-one j t (S .upto) (λ m k l. subst (λ (v : Cell). Holds t m (n + 1 + m) v) (sym (scan-unreachable c b (cell c b) m j none-there)) (S .above m k l))
-    where
-      none-there : cell c b j ≡ unreachable
-      none-there = holds-none t j (n + 1 + j) (cell c b j) (S .upto j h (omega arith)) e
-
-  -- a boundary that is reached offers its size and one more wherever a block from it ends
-  module _ (j s : ℕ) (t : List ℕ) (ends : ℕ → Bool) (inside : j ≤ n) (room : n + 1 + (n + 1) ≤ length t) (small : n + 1 < none)
-      (here : getD t j 0 ≡ s) (some : s ≢ none) (decided : (d : ℕ) → j + d < n → ends d ≡ b j (j + (d + 1))) (S : Scanned j t) where
-    reached-here : (p : ℕ) × (cell c b j ≡ reached s p)
-    reached-here =
-        let r = holds-reached t j (n + 1 + j) (cell c b j) (S .upto j inside (omega arith)) (λ e. some (sym here ∙ e)) in
-        (r .0, subst (λ (x : ℕ). cell c b j ≡ reached x (r .0)) here (r .1))
-
-    bounded : s ≤ j
-    bounded = size-bound c b j s (reached-here .0) (reached-here .1)
-
-    -- after the offers to the next d boundaries
-    pub record Partial (d : ℕ) (u : List ℕ) : Type 0 where
-      pub upto : (m : ℕ) → m ≤ n → m ≤ j → Holds u m (n + 1 + m) (cell c b m)
-      pub offered-to : (m : ℕ) → m ≤ n → j < m → m ≤ j + d → Holds u m (n + 1 + m) (scan c b (cell c b) m (suc j))
-      pub above : (m : ℕ) → m ≤ n → j + d < m → Holds u m (n + 1 + m) (scan c b (cell c b) m j)
-
-    no-block : (d : ℕ) (u : List ℕ) → j + d < n → ends d ≡ false → Partial d u → Partial (suc d) u
-    no-block d u h e P = record { upto = P .upto; offered-to = λ m a k l. mid m a k l (decLe m (j + d)); above = λ m a k. P .above m a (omega arith) }
-      where
-        mid : (m : ℕ) → m ≤ n → j < m → m ≤ j + suc d → Dec (m ≤ j + d) → Holds u m (n + 1 + m) (scan c b (cell c b) m (suc j))
-        mid m a k l (yes x) = P .offered-to m a k x
-        mid m a k l (no x) =
-            let f : m ≡ j + (d + 1) = omega arith in
-            subst (λ (v : Cell). Holds u m (n + 1 + m) v) (sym (scan-no-block c b (cell c b) m j (ap (b j) f ∙ sym (decided d h) ∙ e))) (P .above m a (omega arith))
-
-    block : (d : ℕ) (u : List ℕ) → length u ≡ length t → j + d < n → ends d ≡ true → Partial d u → Partial (suc d) (offered c (j + (d + 1)) (n + 1 + (j + (d + 1))) (s + 1) j u)
-    block d u long h e P =
-        rw (add-one s) record {
-          upto = λ m a k. other m a (omega arith) (P .upto m a k);
-          offered-to = λ m a k l. mid m a k l (decLe m (j + d));
-          above = λ m a k. other m a (omega arith) (P .above m a (omega arith));
-        }
-      where
-        at : ℕ
-        at = j + (d + 1)
-
-        other : (m : ℕ) {v : Cell} → m ≤ n → m ≢ j + (d + 1) → Holds u m (n + 1 + m) v → Holds (offered c (j + (d + 1)) (n + 1 + (j + (d + 1))) (suc s) j u) m (n + 1 + m) v
-        other m {v} a x H = offered-others c (j + (d + 1)) (n + 1 + (j + (d + 1))) (suc s) j u m (n + 1 + m) v x (omega arith) (omega arith) (omega arith) H
-
-        mid : (m : ℕ) → m ≤ n → j < m → m ≤ j + suc d → Dec (m ≤ j + d)
-            → Holds (offered c (j + (d + 1)) (n + 1 + (j + (d + 1))) (suc s) j u) m (n + 1 + m) (scan c b (cell c b) m (suc j))
-        mid m a k l (yes x) = other m a (omega arith) (P .offered-to m a k x)
-        mid m a k l (no x) =
-            let f : m ≡ j + (d + 1) = omega arith in
-            rw f (subst (λ (v : Cell). Holds (offered c (j + (d + 1)) (n + 1 + (j + (d + 1))) (suc s) j u) (j + (d + 1)) (n + 1 + (j + (d + 1))) v)
-            (sym (scan-block c b (cell c b) (j + (d + 1)) j s (reached-here .0) (sym (decided d h) ∙ e) (reached-here .1)))
-            (offered-cell c (j + (d + 1)) (n + 1 + (j + (d + 1))) s j u (reached-here .0) (scan c b (cell c b) (j + (d + 1)) j)
-            (omega arith) (omega arith) (omega arith) (omega (arith, bounded)) (P .above (j + (d + 1)) (omega arith) (omega arith))))
-
-    partly : (d : ℕ) → j + d ≤ n → Partial d (spread c n j (s + 1) ends d t)
-    unfolding spread
-    partly zero h = record { upto = S .upto; offered-to = λ m a k l. absurd (omega arith); above = λ m a k. S .above m a (omega arith) }
-    partly (suc d) h = go (partly d (omega arith)) (ends d) refl
-      where
-        u : List ℕ
-        u = spread c n j (s + 1) ends d t
-
-        go : Partial d u → (x : Bool) → ends d ≡ x → Partial (suc d) (cond x (offered c (j + (d + 1)) (n + 1 + (j + (d + 1))) (s + 1) j u) u)
-        go P true e = block d u (length-spread c n j (s + 1) ends t d) (omega arith) e P
-        go P false e = no-block d u (omega arith) e P
-
-    pub scanned-spread : Scanned (suc j) (spread c n j (s + 1) ends (n - j) t)
-    scanned-spread = let P = partly (n - j) (omega arith) in taken-one j (spread c n j (s + 1) ends (n - j) t) (P .upto) (λ m a k. P .offered-to m a k (omega arith))
-
-  -- when all boundaries are taken the two rows are those of the cells
-  pub scanned-rows : (t : List ℕ) → n + 1 + (n + 1) ≤ length t → Scanned n t → take (n + 1 + (n + 1)) t ≡ sizes c b n ++ previous c b n
-  scanned-rows t h S = take-add (n + 1) (n + 1) t ∙ rows
+  -- where all places hold their cells the two rows are those of the cells
+  pub rows-of-cells : (t : List ℕ) → n + 1 + (n + 1) ≤ length t → ((m : ℕ) → m ≤ n → Holds t m (n + 1 + m) (cell c b m)) → take (n + 1 + (n + 1)) t ≡ sizes c b n ++ previous c b n
+  rows-of-cells t h H = take-add (n + 1) (n + 1) t ∙ rows
     where
       first : take (n + 1) t ≡ sizes c b n
-      first = sizes-are c b n (take (n + 1) t) (length-take (n + 1) t ∙ omega arith) (λ k l. getD-take (n + 1) t k 0 (omega arith) ∙ S .upto k l l .size)
+      first = sizes-are c b n (take (n + 1) t) (length-take (n + 1) t ∙ omega arith) (λ k l. getD-take (n + 1) t k 0 (omega arith) ∙ H k l .size)
 
       second : take (n + 1) (drop (n + 1) t) ≡ previous c b n
       second =
           previous-are c b n (take (n + 1) (drop (n + 1) t)) (length-take (n + 1) (drop (n + 1) t) ∙ omega (arith, length-drop (n + 1) t))
-          (λ k l. getD-take (n + 1) (drop (n + 1) t) k 0 (omega arith) ∙ getD-drop (n + 1) t k 0 ∙ S .upto k l l .previous)
+          (λ k l. getD-take (n + 1) (drop (n + 1) t) k 0 (omega arith) ∙ getD-drop (n + 1) t k 0 ∙ H k l .previous)
 
       rows : take (n + 1) t ++ take (n + 1) (drop (n + 1) t) ≡ sizes c b n ++ previous c b n
       rows = rw (first, second) refl

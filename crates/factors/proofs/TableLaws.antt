@@ -14,7 +14,7 @@ use lib.Seq.{getD-set-same, getD-set-other, getD-append-add, getD-take, getD-dro
 use borrow.Author.Fill.{fill-more}
 use borrow.Author.Tests.{ne-eqb}
 use Rattle.factors.specs.Factorization.{Choice, better, Cell, unreachable, reached, offer, cells, cell, follow, endsFrom, bestEnds}
-use Rattle.factors.specs.Table.{none, sizeIn, previousIn, sizes, previous, started, taken, offered, endsBack, Linked}
+use Rattle.factors.specs.Table.{none, sizeIn, previousIn, Holds, sizes, previous, started, taken, offered, endsBack, Linked}
 use Rattle.factors.specs.Verdict.{endOf}
 use Rattle.factors.proofs.Chains.{length-snoc}
 use Rattle.factors.proofs.Optimal.{reached-same, reached-suc, reached-zero, best-ends, length-cells, cells-at}
@@ -119,12 +119,6 @@ module _ (c : Choice) (at back s j : ℕ) (t : List ℕ) where
       go false = refl
 
 -- ---- places that hold a cell
-
--- the size stands at `at`, and the previous boundary at `back`; the size of a boundary that is reached is not the number for none
-pub record Holds (t : List ℕ) (at back : ℕ) (v : Cell) : Type 0 where
-  pub size : getD t at 0 ≡ sizeIn v
-  pub previous : getD t back 0 ≡ previousIn v
-  pub bound : (s p : ℕ) → v ≡ reached s p → s < none
 
 module _ (t : List ℕ) (at back : ℕ) where
   -- the size says whether the boundary is reached

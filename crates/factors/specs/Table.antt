@@ -26,6 +26,12 @@ abbrev pub previousIn : Cell → ℕ
 previousIn unreachable = 0
 previousIn (reached s p) = p
 
+-- a boundary whose size stands at place `at` and whose previous boundary at `back`; the size of one that is reached is not the number for none
+pub record Holds (t : List ℕ) (at back : ℕ) (v : Cell) : Type 0 where
+  pub size : getD t at 0 ≡ sizeIn v
+  pub previous : getD t back 0 ≡ previousIn v
+  pub bound : (s p : ℕ) → v ≡ reached s p → s < none
+
 -- the two rows for the boundaries 0 to n
 unfoldable pub sizes : Choice → (ℕ → ℕ → Bool) → ℕ → List ℕ
 sizes c b n = map sizeIn (cells c b n)

@@ -1,5 +1,5 @@
 -- Laws of the Boolean tests that definitions are made of. By cases on the tests. Assumes nothing.
-use mathlib.Core.Path.{_≡_, refl}
+use mathlib.Core.Path.{_≡_, refl, subst}
 use mathlib.Core.Logic.{_⊎_, inl, inr}
 use mathlib.Core.Bool.{Bool, true, false, _&&_, _||_}
 use lib.Dec.{T}
@@ -31,3 +31,18 @@ or-right false y t = t
 pub T-true : (b : Bool) → T b → b ≡ true
 T-true true h = refl
 T-true false h = absurd h
+
+-- two tests that imply each other are equal
+pub same-tests : (x y : Bool) → (T x → T y) → (T y → T x) → x ≡ y
+same-tests true true f g = refl
+same-tests true false f g = absurd (f tt)
+same-tests false true f g = absurd (g tt)
+same-tests false false f g = refl
+
+pub test-fails : (x : Bool) → (T x → ⊥) → x ≡ false
+test-fails true f = absurd (f tt)
+test-fails false f = refl
+
+pub T-false : (x : Bool) → x ≡ false → T x → ⊥
+T-false true e h = subst T e h
+T-false false e h = h

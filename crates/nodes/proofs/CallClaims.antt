@@ -11,7 +11,7 @@ use lib.Dec.{ltb}
 use lib.ListN.{length, drop}
 use lib.Seq.{sets}
 use Rattle.answers.specs.Outcome.{Outcome, accepted, refused, limit}
-use Rattle.periods.specs.Period.{anyPeriod}
+use Rattle.periods.specs.Period.{heldPeriod}
 use Rattle.periods.specs.Edition.{Edition, turnsOf}
 use Rattle.periods.proofs.Editions.{test-of-edition, test-of-no-edition, edition?}
 use Rattle.runs.specs.Table.{runsOf}
@@ -43,11 +43,11 @@ module _ (w : List ℕ) (edition x : ℕ) where
 
   -- the numbers of the nodes, and how many there are
   abbrev numbers : List ℕ
-  numbers = nodesAt anyPeriod (turnsOf edition) w x
+  numbers = nodesAt heldPeriod (turnsOf edition) w x
 
-  pub listed-nodes : ListsNodes anyPeriod (turnsOf edition) (runsOf w) x numbers
+  pub listed-nodes : ListsNodes heldPeriod (turnsOf edition) (runsOf w) x numbers
   unfolding nodesAt
-  listed-nodes = nodes-listed anyPeriod (turnsOf edition) (runsOf w) x
+  listed-nodes = nodes-listed heldPeriod (turnsOf edition) (runsOf w) x
 
   module _ (t : List ℕ) where
     pub nodes-too-long : limit < length w → NodesGive w edition x t (refused 1 0) t

@@ -10,7 +10,7 @@ use native.Mathlib.Omega.{arith}
 use lib.ListN.{length, drop}
 use Rattle.answers.specs.Outcome.{Outcome, accepted, refused}
 use Rattle.answers.proofs.Claims.{refused-accepted, refused-number}
-use Rattle.periods.specs.Period.{anyPeriod}
+use Rattle.periods.specs.Period.{heldPeriod}
 use Rattle.periods.specs.Edition.{turnsOf}
 use Rattle.runs.specs.declared.Record.{Record}
 use Rattle.runs.specs.Run.{Lists}
@@ -67,11 +67,11 @@ nodes-unique allowed k rows x numbers others L M =
     rising-unique 0 0 numbers others (L .rising) (M .rising) (λ i h. M .complete i (L .sound i h)) (λ i h. L .complete i (M .sound i h))
 
 -- the numbers of the nodes, for any list of the runs
-numbers-same : (w : List ℕ) (edition x : ℕ) (rows : List Record) (numbers : List ℕ) → Lists w rows → ListsNodes anyPeriod (turnsOf edition) rows x numbers
-    → numbers ≡ nodesAt anyPeriod (turnsOf edition) w x
+numbers-same : (w : List ℕ) (edition x : ℕ) (rows : List Record) (numbers : List ℕ) → Lists w rows → ListsNodes heldPeriod (turnsOf edition) rows x numbers
+    → numbers ≡ nodesAt heldPeriod (turnsOf edition) w x
 numbers-same w edition x rows numbers L N =
-    nodes-unique anyPeriod (turnsOf edition) (runsOf w) x numbers (nodesAt anyPeriod (turnsOf edition) w x)
-    (subst (λ (rs : List Record). ListsNodes anyPeriod (turnsOf edition) rs x numbers) (lists-unique w rows (runsOf w) L (runs-listed w)) N)
+    nodes-unique heldPeriod (turnsOf edition) (runsOf w) x numbers (nodesAt heldPeriod (turnsOf edition) w x)
+    (subst (λ (rs : List Record). ListsNodes heldPeriod (turnsOf edition) rs x numbers) (lists-unique w rows (runsOf w) L (runs-listed w)) N)
     (listed-nodes w edition x)
 
 -- CLAIM: the nodes call's answer and table are the only ones that mean what the documents say

@@ -2,7 +2,7 @@
 -- Then the laws that the code goes by: one more record, and the order of its tests. By induction on the records. Assumes nothing.
 use mathlib.Core.Path.{_≡_, refl, sym, ap, _∙_, subst}
 use mathlib.Core.Logic.{_⊎_, inl, inr}
-use mathlib.Core.Bool.{Bool, true, false, cond, _&&_, and-true}
+use mathlib.Core.Bool.{Bool, true, false, cond, _&&_, and-true, and-false}
 use mathlib.Core.List.{List, [], _∷_, _++_, append-assoc, append-nil, List·Memᴰ, List·Memᴰ·head, List·Memᴰ·tail, List·Memᴰ·cases-cons, List·Memᴰ·not-nil}
 use Prim.Native.Nat.{ℕ, zero, suc, _+_, _*_, _≤_, _<_}
 use native.Mathlib.Omega.{arith}
@@ -12,7 +12,7 @@ use borrow.Author.Tests.{le-leb, lt-leb}
 use lib.Dec.{T, leb, leb→le, le→leb}
 use lib.ListN.{length}
 use Rattle.laws.proofs.Tests.{and-intro, and-left, and-right}
-use Rattle.periods.specs.Period.{anyPeriod}
+use Rattle.periods.specs.Period.{heldPeriod}
 use Rattle.periods.specs.Edition.{turnsOf}
 use Rattle.runs.specs.declared.Record.{Record}
 use Rattle.runs.specs.Run.{Entry}
@@ -132,19 +132,23 @@ module _ (allowed : ℕ → Bool) (k : ℕ) (rows : List Record) (x : ℕ) where
 
 -- ---- the test, in the order of the code
 
-pub node-early : (k x : ℕ) (r : Record) → x + 1 < r .first + k * r .period → false ≡ node? anyPeriod k x r
-node-early k x r h = rw (lt-leb (r .first + k * r .period) (x + 1) h) refl
+module _ (allowed : ℕ → Bool) (k x : ℕ) (r : Record) where
+  pub node-barred : allowed (r .period) ≡ false → false ≡ node? allowed k x r
+  node-barred h = simp (h, and-false (leb x (r .last)), and-false (leb (r .first + k * r .period) (x + 1)))
 
-pub node-reached : (k x : ℕ) (r : Record) → r .first + k * r .period ≤ x + 1 → leb x (r .last) ≡ node? anyPeriod k x r
-node-reached k x r h = rw (le-leb (r .first + k * r .period) (x + 1) h) (sym (and-true (leb x (r .last))))
+  pub node-early : x + 1 < r .first + k * r .period → false ≡ node? allowed k x r
+  node-early h = rw (lt-leb (r .first + k * r .period) (x + 1) h) refl
+
+  pub node-reached : allowed (r .period) ≡ true → r .first + k * r .period ≤ x + 1 → leb x (r .last) ≡ node? allowed k x r
+  node-reached t h = rw (le-leb (r .first + k * r .period) (x + 1) h, t) (sym (and-true (leb x (r .last))))
 
 -- there are no more nodes at a position than runs
-pub nodes-at-most : (k : ℕ) (w : List ℕ) (x : ℕ) → length (nodesAt anyPeriod k w x) ≤ length (runsOf w)
+pub nodes-at-most : (k : ℕ) (w : List ℕ) (x : ℕ) → length (nodesAt heldPeriod k w x) ≤ length (runsOf w)
 unfolding nodesAt
-nodes-at-most k w x = numbers-at-most (node? anyPeriod k x) 0 (runsOf w)
+nodes-at-most k w x = numbers-at-most (node? heldPeriod k x) 0 (runsOf w)
 
 -- the numbers that are picked among all runs, by the turn number of an edition
 pub nodes-picked : (edition k : ℕ) (w : List ℕ) (x : ℕ) (rows : List Record) → k ≡ turnsOf edition → rows ≡ runsOf w
-    → numbersWhere (node? anyPeriod k x) 0 rows ≡ nodesAt anyPeriod (turnsOf edition) w x
+    → numbersWhere (node? heldPeriod k x) 0 rows ≡ nodesAt heldPeriod (turnsOf edition) w x
 unfolding nodesAt
 nodes-picked edition k w x rows e f = rw (e, f) refl

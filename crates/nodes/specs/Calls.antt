@@ -7,7 +7,7 @@ use lib.Dec.{ltb}
 use lib.ListN.{length, drop}
 use Rattle.answers.specs.declared.Refusal.the-variants.{TooLong, BadPosition, TooFewPlaces, BadEdition}
 use Rattle.answers.specs.Outcome.{Outcome, accepted, refused, refusal, limit}
-use Rattle.periods.specs.Period.{anyPeriod}
+use Rattle.periods.specs.Period.{heldPeriod}
 use Rattle.periods.specs.Edition.{Edition, badEdition?, turnsOf}
 use Rattle.runs.specs.declared.Record.{Record}
 use Rattle.runs.specs.Run.{Lists}
@@ -24,12 +24,12 @@ testedNodes w edition x places numbers long unknown outside few listed =
 
 unfoldable pub nodesOutcome : List ℕ → ℕ → ℕ → ℕ → Outcome
 nodesOutcome w edition x places =
-    let numbers = nodesAt anyPeriod (turnsOf edition) w x in
+    let numbers = nodesAt heldPeriod (turnsOf edition) w x in
     testedNodes w edition x places numbers (refusal TooLong) (refusal BadEdition) (refusal BadPosition) (refusal TooFewPlaces) (accepted (length numbers ∷ []))
 
 unfoldable pub nodesTable : List ℕ → ℕ → ℕ → List ℕ → List ℕ
 nodesTable w edition x t =
-    let numbers = nodesAt anyPeriod (turnsOf edition) w x in
+    let numbers = nodesAt heldPeriod (turnsOf edition) w x in
     testedNodes w edition x (length t) numbers t t t t (numbers ++ drop (length numbers) t)
 
 -- each number is greater than the one before it, and than i
@@ -49,8 +49,8 @@ pub data NodesMeaning (w : List ℕ) (edition x : ℕ) (t : List ℕ) (o : Outco
   outside : length w ≤ limit → Edition edition → ((1 ≤ x) × (x ≤ length w) → ⊥) → o ≡ refused 6 0 → u ≡ t → NodesMeaning w edition x t o u
   too-few :
       length w ≤ limit → Edition edition → (1 ≤ x) × (x ≤ length w) → (rows : List Record) → Lists w rows → (numbers : List ℕ)
-      → ListsNodes anyPeriod (turnsOf edition) rows x numbers → length t < length numbers → o ≡ refused 7 0 → u ≡ t → NodesMeaning w edition x t o u
+      → ListsNodes heldPeriod (turnsOf edition) rows x numbers → length t < length numbers → o ≡ refused 7 0 → u ≡ t → NodesMeaning w edition x t o u
   listed :
       length w ≤ limit → Edition edition → (1 ≤ x) × (x ≤ length w) → (rows : List Record) → Lists w rows → (numbers : List ℕ)
-      → ListsNodes anyPeriod (turnsOf edition) rows x numbers → length numbers ≤ length t → o ≡ accepted (length numbers ∷ []) → u ≡ numbers ++ drop (length numbers) t
+      → ListsNodes heldPeriod (turnsOf edition) rows x numbers → length numbers ≤ length t → o ≡ accepted (length numbers ∷ []) → u ≡ numbers ++ drop (length numbers) t
       → NodesMeaning w edition x t o u

@@ -8,7 +8,7 @@ use Rattle.runs.specs.Run.{Entry}
 use Rattle.runs.specs.Table.{runsOf}
 
 -- "Run i has a white node at each position from first+2×unit−1 to last", and in edition 2 "from first+3×unit−1". The turn number is k, and only allowed
--- periods have nodes.
+-- periods have nodes: "a run with a longer unit stays in the list but has no white nodes".
 pub record White (allowed : ℕ → Bool) (k : ℕ) (rows : List Record) (i x : ℕ) : Type 0 where
   pub run : Record
   pub numbered : Entry rows i run

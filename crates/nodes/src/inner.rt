@@ -4,7 +4,7 @@ ghost use Prim.Native.Nat.{_≤_, _*_};
 ghost use lib.ListN.{length};
 ghost use lib.Seq.{sets};
 ghost use Rattle.answers.specs.Outcome.{countedView, limit};
-ghost use Rattle.periods.specs.Period.{anyPeriod};
+ghost use Rattle.periods.specs.Period.{heldPeriod};
 ghost use Rattle.periods.specs.Edition.{Turns};
 ghost use Rattle.runs.specs.Table.{stride, records};
 ghost use Rattle.halves.specs.Scratch.{Scratch, shortLimit};
@@ -19,9 +19,13 @@ use runs::STRIDE;
 // Whether a run has a white node at position x, where a repetition has so many turns at least.
 fn is_node(run: Record, turns: usize, x: usize) -> bool
     requires { ⌜ (x ≤ limit) × Turns turns ⌝ }
-    ensures { λ r. ⌜ r ≡ node? anyPeriod turns x run ⌝ }
+    ensures { λ r. ⌜ r ≡ node? heldPeriod turns x run ⌝ }
 {
-    let from = run.first as usize + turns * (run.period as usize);
+    let unit = run.period as usize;
+    if periods::UNIT_MEMORY < unit {
+        return false;
+    }
+    let from = run.first as usize + turns * unit;
     if x + 1 < from {
         return false;
     }
@@ -32,8 +36,8 @@ fn is_node(run: Record, turns: usize, x: usize) -> bool
 // as the table has places, and gives their count.
 fn pick(rows: &[u32], count: usize, turns: usize, x: usize, out: &mut [u32]) -> usize
     requires { ⌜ (stride * count ≤ length (now rows)) × (count ≤ limit) × (x ≤ limit) × Turns turns ⌝ }
-    ensures { λ r. ⌜ r ≡ length (numbersWhere (node? anyPeriod turns x) 0 (records count (now (rows .entry)))) ⌝ }
-    ensures { λ _. ⌜ now (out .exit) ≡ sets (now (out .entry)) 0 (numbersWhere (node? anyPeriod turns x) 0 (records count (now (rows .entry)))) ⌝ }
+    ensures { λ r. ⌜ r ≡ length (numbersWhere (node? heldPeriod turns x) 0 (records count (now (rows .entry)))) ⌝ }
+    ensures { λ _. ⌜ now (out .exit) ≡ sets (now (out .entry)) 0 (numbersWhere (node? heldPeriod turns x) 0 (records count (now (rows .entry)))) ⌝ }
 {
     let mut found: usize = 0;
     let mut i: usize = 0;

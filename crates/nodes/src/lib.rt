@@ -10,8 +10,8 @@ use answers::Counted;
 use answers::Refusal;
 
 // The nodes call: writes the numbers of the runs with a white node at a position from 1, rising,
-// and gives their count. Refusals: 1, 12, 6, 7; with n places for n symbols 7 never comes. Time: that
-// of the runs call; 131 KiB of stack.
+// and gives their count. A run whose unit memory does not hold has none. Refusals: 1, 12, 6, 7; with
+// n places for n symbols 7 never comes. Time: that of the runs call; 131 KiB of stack.
 pub fn nodes(w: &[u8], edition: u32, position: u32, table: &mut [u32]) -> Counted
     ensures answer { λ r. ⌜ countedView r ≡ nodesOutcome (now (w .entry)) edition position (length (now (table .entry))) ⌝ }
     ensures written { λ r. ⌜ now (table .exit) ≡ nodesTable (now (w .entry)) edition position (now (table .entry)) ⌝ }

@@ -11,7 +11,7 @@ use borrow.Author.Tests.{lt-ltb, le-ltb}
 use lib.ListN.{length, drop}
 use Rattle.answers.specs.Outcome.{Outcome, accepted, refused, limit, unlessRefused, tableUnless}
 use Rattle.answers.proofs.Claims.{refused-accepted}
-use Rattle.periods.specs.Period.{anyPeriod}
+use Rattle.periods.specs.Period.{heldPeriod}
 use Rattle.periods.specs.Edition.{turnsOf}
 use Rattle.factors.specs.Factorization.{Factorization}
 use Rattle.repetitions.specs.Block.{Block}
@@ -27,7 +27,7 @@ abbrev pub PageGives : List ℕ → ℕ → List ℕ → List ℕ → Outcome �
 PageGives w edition ends t o u = (o ≡ pageOutcome w edition ends (length t)) × (u ≡ pageTable w edition ends t)
 
 -- the page of a split has 61 bytes a block
-pub bytes : (w : List ℕ) (edition : ℕ) (ends : List ℕ) → length w ≤ limit → Factorization (Block anyPeriod (turnsOf edition) w) (length w) ends → length (page w ends) ≡ lineBytes * length ends
+pub bytes : (w : List ℕ) (edition : ℕ) (ends : List ℕ) → length w ≤ limit → Factorization (Block heldPeriod (turnsOf edition) w) (length w) ends → length (page w ends) ≡ lineBytes * length ends
 bytes w edition ends h F = page-length w (omega arith) ends (edition-two-turns edition w (length w) ends F)
 
 module _ (w : List ℕ) (edition : ℕ) (ends t : List ℕ) where

@@ -7,7 +7,8 @@ use Rattle.answers.specs.Outcome.{accepted, refused}
 use Rattle.decimals.specs.Decimal.{digitsIn, digitCount}
 use Rattle.periods.specs.Period.{smallestPeriod, repetition?}
 use Rattle.periods.specs.Edition.{badEdition?, turnsOf}
-use Rattle.periods.proofs.Words.{word-aabaabaa}
+use Rattle.periods.specs.Square.{power}
+use Rattle.periods.proofs.Words.{one-and, word-aabaabaa}
 use Rattle.runs.specs.Table.{run?, runBetween, rowsAt, rowsBefore, runsOf}
 use Rattle.runs.specs.Number.{firstNumber, runNumber}
 use Rattle.factors.specs.Factorization.{textOfBlocks}
@@ -37,6 +38,11 @@ bytes-of-2-8 = refl
 pub written-2-8 : pageTable word-aabaabaa 1 (2 ∷ 8 ∷ []) (replicate 123 7) ≡ line-1 ++ (line-2 ++ (7 ∷ []))
 unfolding pageTable pageOutcome splitOutcome verdict badEdition? turnsOf textOfBlocks pageLine line columns symbols digitsIn digitCount runNumber firstNumber runsOf rowsBefore rowsAt runBetween run? repetition? smallestPeriod
 written-2-8 = refl
+
+-- "4 now covers a unit above 256 in every call that gives it for blocks"
+pub page-of-unit-257 : pageOutcome (power 2 (one-and 256)) 1 (514 ∷ []) 61 ≡ refused 4 1
+unfolding pageOutcome splitOutcome verdict badEdition? turnsOf repetition? smallestPeriod
+page-of-unit-257 = refl
 
 -- a byte short, 7, and nothing is written
 pub a-byte-short : pageOutcome word-aabaabaa 1 (2 ∷ 8 ∷ []) 121 ≡ refused 7 0

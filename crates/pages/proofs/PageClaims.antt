@@ -9,7 +9,7 @@ use native.Mathlib.Nat.{div-le-self, mod-le}
 use lib.ListN.{length, take, drop, length-append}
 use lib.Seq.{take-at, drop-at}
 use Rattle.decimals.specs.Decimal.{value, field}
-use Rattle.periods.specs.Period.{part, smallestPeriod, anyPeriod}
+use Rattle.periods.specs.Period.{part, smallestPeriod, heldPeriod}
 use Rattle.periods.proofs.Claims.{smallest-period-is, smallest-period-unique}
 use Rattle.runs.specs.Number.{runNumber, blockNumbers}
 use Rattle.runs.proofs.Rows.{part-long}
@@ -25,7 +25,7 @@ use Rattle.pages.specs.Page.{pageLine, page, LineOf, Lines}
 
 -- the blocks of a page: two turns are enough
 abbrev Piece : List ℕ → ℕ → ℕ → Type 0
-Piece w i j = Block anyPeriod 2 w i j
+Piece w i j = Block heldPeriod 2 w i j
 
 pub page-line-is : (w : List ℕ) (number i j : ℕ) → line (blockNumbers w number i j) (part w i (i + smallestPeriod (part w i j))) ≡ pageLine w number i j
 unfolding pageLine
@@ -39,7 +39,7 @@ module _ (w : List ℕ) (short : length w ≤ greatest) where
   numbers-short number i j K h =
       let s = part w i j in
       let p = smallestPeriod s in
-      let u = block-unit anyPeriod 2 w i j K p refl in
+      let u = block-unit heldPeriod 2 w i j K p refl in
       let l = part-long w i j (K .0) in
       let number-fits : number ≤ greatest = omega (arith, K .0) in
       let first-fits : suc i ≤ greatest = omega (arith, K .0, u .0, u .1) in
@@ -65,9 +65,9 @@ module _ (w : List ℕ) (short : length w ≤ greatest) where
       let l = part-long w i j (K .0) in
       record {
         unit = p;
-        smallest = smallest-period-is s (omega (arith, block-up anyPeriod 2 w i j K));
+        smallest = smallest-period-is s (omega (arith, block-up heldPeriod 2 w i j K));
         run = runNumber w i j;
-        of-run = run-number-segment 2 (omega arith) w i j K;
+        of-run = run-number-segment heldPeriod 2 (omega arith) w i j K;
         is =
             sym (page-line-is w number i j)
             ∙ ap (λ (n : ℕ). line (number ∷ suc i ∷ j ∷ p ∷ (n / p) ∷ (n % p) ∷ runNumber w i j ∷ []) (part w i (i + p))) l;
@@ -78,7 +78,7 @@ module _ (w : List ℕ) (short : length w ≤ greatest) where
 line-unique : (w : List ℕ) (number i j : ℕ) (s : List ℕ) → Piece w i j → LineOf w number i j s → s ≡ pageLine w number i j
 line-unique w number i j s K L =
     let p : smallestPeriod (part w i j) ≡ L .unit = smallest-period-unique (part w i j) (L .unit) (L .smallest) in
-    let r : runNumber w i j ≡ L .run = run-number-unique 2 (omega arith) w i j K (L .run) (L .of-run) in
+    let r : runNumber w i j ≡ L .run = run-number-unique heldPeriod 2 (omega arith) w i j K (L .run) (L .of-run) in
     L .is
     ∙ ap₂ (λ (q m : ℕ). line (number ∷ suc i ∷ j ∷ q ∷ ((j - i) / q) ∷ ((j - i) % q) ∷ m ∷ []) (part w i (i + q))) (sym p) (sym r)
     ∙ ap (λ (n : ℕ). line (number ∷ suc i ∷ j ∷ smallestPeriod (part w i j) ∷ (n / smallestPeriod (part w i j)) ∷ (n % smallestPeriod (part w i j)) ∷ runNumber w i j ∷ []) (part w i (i + smallestPeriod (part w i j))))
@@ -99,14 +99,14 @@ module _ (w : List ℕ) (short : length w ≤ greatest) where
   unfolding textOfBlocks
   lines-there [] k i m h C = refl
   lines-there (e ∷ es) k i m h C =
-      let up = block-up anyPeriod 2 w i e (C .0) in
+      let up = block-up heldPeriod 2 w i e (C .0) in
       (pageLine w (suc k) i e, textOfBlocks (pageLine w) (suc k) e es, line-of-block w short (suc k) i e (C .0) (omega arith), lines-there es (suc k) e m (omega arith) (C .1), refl)
 
   text-length : (es : List ℕ) (k i m : ℕ) → k ≤ i → Chain (Piece w) i es m → length (textOfBlocks (pageLine w) k i es) ≡ lineBytes * length es
   unfolding textOfBlocks
   text-length [] k i m h C = refl
   text-length (e ∷ es) k i m h C =
-      let up = block-up anyPeriod 2 w i e (C .0) in
+      let up = block-up heldPeriod 2 w i e (C .0) in
       omega (arith, length-append (pageLine w (suc k) i e) (textOfBlocks (pageLine w) (suc k) e es), page-line-length w short (suc k) i e (C .0) (omega arith), text-length es (suc k) e m (omega arith) (C .1))
 
   -- CLAIM: the page has 61 bytes a block
@@ -129,10 +129,10 @@ module _ (w : List ℕ) (short : length w ≤ greatest) where
   )
     where
       up-x : i < x
-      up-x = block-up anyPeriod 2 w i x K
+      up-x = block-up heldPeriod 2 w i x K
 
       up-f : i < f
-      up-f = block-up anyPeriod 2 w i f L
+      up-f = block-up heldPeriod 2 w i f L
 
       a : length (pageLine w (suc k) i x) ≡ lineBytes
       a = page-line-length w short (suc k) i x K (omega (arith, up-x))
@@ -157,14 +157,14 @@ module _ (w : List ℕ) (short : length w ≤ greatest) where
   unfolding textOfBlocks
   text-one-split [] [] k i m h C D e = refl
   text-one-split [] (f ∷ fs) k i m h C D e =
-      let up = block-up anyPeriod 2 w i f (D .0) in
+      let up = block-up heldPeriod 2 w i f (D .0) in
       absurd (omega (arith, ap length e, length-append (pageLine w (suc k) i f) (textOfBlocks (pageLine w) (suc k) f fs), page-line-length w short (suc k) i f (D .0) (omega arith)))
   text-one-split (x ∷ es) [] k i m h C D e =
-      let up = block-up anyPeriod 2 w i x (C .0) in
+      let up = block-up heldPeriod 2 w i x (C .0) in
       absurd (omega (arith, ap length e, length-append (pageLine w (suc k) i x) (textOfBlocks (pageLine w) (suc k) x es), page-line-length w short (suc k) i x (C .0) (omega arith)))
   text-one-split (x ∷ es) (f ∷ fs) k i m h C D e =
       let S = first-same es fs k i x f h (C .0) (D .0) e in
-      let up = block-up anyPeriod 2 w i x (C .0) in
+      let up = block-up heldPeriod 2 w i x (C .0) in
       ap₂ (λ (y : ℕ) (ys : List ℕ). y ∷ ys) (S .0)
       (text-one-split es fs (suc k) x m (omega arith) (C .1) (subst (λ (y : ℕ). Chain (Piece w) y fs m) (sym (S .0)) (D .1)) (S .1 ∙ ap (λ (y : ℕ). textOfBlocks (pageLine w) (suc k) y fs) (sym (S .0))))
 

@@ -8,7 +8,7 @@ use lib.Dec.{ltb}
 use lib.ListN.{length, drop}
 use Rattle.answers.specs.declared.Refusal.the-variants.{TooFewPlaces}
 use Rattle.answers.specs.Outcome.{Outcome, accepted, refused, refusal, limit, unlessRefused, tableUnless}
-use Rattle.periods.specs.Period.{part, SmallestPeriod, smallestPeriod, anyPeriod}
+use Rattle.periods.specs.Period.{part, SmallestPeriod, smallestPeriod, heldPeriod}
 use Rattle.periods.specs.Edition.{Edition, turnsOf}
 use Rattle.runs.specs.Number.{blockNumbers}
 use Rattle.factors.specs.Factorization.{Factorization, textOfBlocks}
@@ -46,7 +46,7 @@ pub record LineOf (w : List ℕ) (number i j : ℕ) (s : List ℕ) : Type 0 wher
   pub unit : ℕ
   pub smallest : SmallestPeriod (part w i j) unit
   pub run : ℕ
-  pub of-run : Segment anyPeriod 2 w run i j
+  pub of-run : Segment heldPeriod 2 w run i j
   pub is : s ≡ line (number ∷ suc i ∷ j ∷ unit ∷ ((j - i) / unit) ∷ ((j - i) % unit) ∷ run ∷ []) (part w i (i + unit))
   pub one : OneLine s
 
@@ -59,8 +59,8 @@ Lines w k i (e ∷ es) s = (first : List ℕ) × (others : List ℕ) × LineOf w
 pub data PageMeaning (w : List ℕ) (edition : ℕ) (ends t : List ℕ) (o : Outcome) (u : List ℕ) : Type 0 where
   refused-split : (x i : ℕ) → SplitMeaning w edition ends (refused x i) → o ≡ refused x i → u ≡ t → PageMeaning w edition ends t o u
   too-few :
-      length w ≤ limit → Edition edition → Factorization (Block anyPeriod (turnsOf edition) w) (length w) ends → length t < lineBytes * length ends → o ≡ refused 7 0
+      length w ≤ limit → Edition edition → Factorization (Block heldPeriod (turnsOf edition) w) (length w) ends → length t < lineBytes * length ends → o ≡ refused 7 0
       → u ≡ t → PageMeaning w edition ends t o u
   written :
-      length w ≤ limit → Edition edition → Factorization (Block anyPeriod (turnsOf edition) w) (length w) ends → lineBytes * length ends ≤ length t → (s : List ℕ)
+      length w ≤ limit → Edition edition → Factorization (Block heldPeriod (turnsOf edition) w) (length w) ends → lineBytes * length ends ≤ length t → (s : List ℕ)
       → Lines w 0 0 ends s → o ≡ accepted (lineBytes * length ends ∷ []) → u ≡ s ++ drop (lineBytes * length ends) t → PageMeaning w edition ends t o u

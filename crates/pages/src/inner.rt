@@ -4,7 +4,7 @@ ghost use Prim.Native.Nat.{_≤_, _+_, _*_};
 ghost use lib.ListN.{length};
 ghost use lib.Seq.{sets};
 ghost use Rattle.answers.specs.Outcome.{limit};
-ghost use Rattle.periods.specs.Period.{part, smallestPeriod, anyPeriod};
+ghost use Rattle.periods.specs.Period.{part, smallestPeriod, heldPeriod};
 ghost use Rattle.runs.specs.Number.{runNumber};
 ghost use Rattle.repetitions.specs.Block.{Block};
 ghost use Rattle.paths.specs.Walk.{Factored};
@@ -17,7 +17,7 @@ const MOST_BLOCKS: usize = answers::LIMIT / 2;
 
 // Writes the line of block number k + 1, between two boundaries, by its unit and its run number.
 fn write_block(w: &[u8], k: usize, before: usize, end: usize, unit: u32, run: u32, out: &mut [u8])
-    requires { ⌜ (k ≤ before) × (length (now w) ≤ limit) × Block anyPeriod 2 (now w) before end × (lineBytes * (k + 1) ≤ length (now out)) ⌝ }
+    requires { ⌜ (k ≤ before) × (length (now w) ≤ limit) × Block heldPeriod 2 (now w) before end × (lineBytes * (k + 1) ≤ length (now out)) ⌝ }
     requires { ⌜ (unit ≡ smallestPeriod (part (now w) before end)) × (run ≡ runNumber (now w) before end) ⌝ }
     ensures { λ _. ⌜ now (out .exit) ≡ sets (now (out .entry)) (lineBytes * k) (pageLine (now (w .entry)) (k + 1) before end) ⌝ }
 {

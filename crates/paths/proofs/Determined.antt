@@ -6,7 +6,7 @@ use Prim.Native.Nat.{ℕ}
 use native.Mathlib.Omega.{arith}
 use lib.ListN.{length, drop}
 use Rattle.answers.specs.Outcome.{Outcome, refused}
-use Rattle.periods.specs.Period.{anyPeriod}
+use Rattle.periods.specs.Period.{heldPeriod}
 use Rattle.periods.specs.Edition.{turnsOf}
 use Rattle.periods.proofs.Editions.{two-turns}
 use Rattle.factors.specs.Factorization.{Factorization}
@@ -24,10 +24,10 @@ use Rattle.paths.specs.Calls as calls
 -- ---- path of a split
 
 -- the run numbers of a path that goes with the split
-path-numbers : (w : List ℕ) (edition : ℕ) (ends : List ℕ) → Factorization (Block anyPeriod (turnsOf edition) w) (length w) ends
-    → (xs : List Node) → Path anyPeriod (turnsOf edition) w (length w) xs → GoTogether xs ends → runsOfPairs (encoding (black 0) xs) ≡ runNumbers w 0 ends
+path-numbers : (w : List ℕ) (edition : ℕ) (ends : List ℕ) → Factorization (Block heldPeriod (turnsOf edition) w) (length w) ends
+    → (xs : List Node) → Path heldPeriod (turnsOf edition) w (length w) xs → GoTogether xs ends → runsOfPairs (encoding (black 0) xs) ≡ runNumbers w 0 ends
 path-numbers w edition ends F xs v g =
-    let p = numbers-path (turnsOf edition) (two-turns edition) w ends F in
+    let p = numbers-path heldPeriod (turnsOf edition) (two-turns edition) w ends F in
     ap (λ (ys : List Node). runsOfPairs (encoding (black 0) ys)) (edition-one-to-one edition w (length w) (omega arith) .one-path xs (p .0) v (p .1) (g ∙ sym (p .2))) ∙ p .3
 
 -- CLAIM: the meaning of path of a split determines the answer and the table
@@ -54,6 +54,6 @@ path-judged-determined w edition ns o (calls.PathJudgedMeaning.bad-edition h i e
 path-judged-determined w edition ns o (calls.PathJudgedMeaning.odd h i q e) = e ∙ path-odd w edition ns h i q
 path-judged-determined w edition ns o (calls.PathJudgedMeaning.judged h i q J) =
     let k = turnsOf edition in
-    meaning-determines (λ m i j. Segment anyPeriod k w (numberGiven ns m) i j) (length w) (endsOfPairs ns) (J .verdict-on)
-    (verdict-means (segment? anyPeriod k w ns) (λ m i j. Segment anyPeriod k w (numberGiven ns m) i j) (λ m i j. decides k w ns m i j .0) (λ m i j. decides k w ns m i j .1) (length w) (endsOfPairs ns))
+    meaning-determines (λ m i j. Segment heldPeriod k w (numberGiven ns m) i j) (length w) (endsOfPairs ns) (J .verdict-on)
+    (verdict-means (segment? heldPeriod k w ns) (λ m i j. Segment heldPeriod k w (numberGiven ns m) i j) (λ m i j. decides heldPeriod k w ns m i j .0) (λ m i j. decides heldPeriod k w ns m i j .1) (length w) (endsOfPairs ns))
     ∙ path-judged w edition ns h i (λ z. omega arith)

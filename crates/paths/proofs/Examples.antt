@@ -1,13 +1,15 @@
 -- The documents' examples of the definitions that the contracts of this crate cite, computed: paths of splits, three paths node by node, judged paths. Assumes
 -- nothing.
 use mathlib.Core.Path.{_≡_, refl}
+use mathlib.Core.Bool.{true, false}
 use mathlib.Core.List.{List, [], _∷_}
 use Prim.Native.Nat.{ℕ, _≤_}
 use native.Mathlib.Omega.{arith}
 use lib.ListN.{replicate}
 use Rattle.answers.specs.Outcome.{accepted, refused}
-use Rattle.periods.specs.Period.{smallestPeriod, repetition?, anyPeriod}
+use Rattle.periods.specs.Period.{smallestPeriod, repetition?, heldPeriod}
 use Rattle.periods.specs.Edition.{badEdition?, turnsOf}
+use Rattle.periods.specs.Square.{power}
 use Rattle.runs.specs.declared.Record.{Record}
 use Rattle.runs.specs.Run.{Entry}
 use Rattle.nodes.specs.Node.{White}
@@ -18,8 +20,8 @@ use Rattle.paths.specs.Graph.{Node, black, white, Path, total, drops, en
 use Rattle.repetitions.specs.Judge.{splitOutcome}
 use Rattle.runs.specs.Number.{firstNumber, runNumber}
 use Rattle.factors.specs.Factorization.{ofBlocks}
-use Rattle.paths.specs.Calls.{pathOutcome, pathTable, pathJudgedOutcome}
-use Rattle.periods.proofs.Words.{word-aa, word-aaaa, word-aabaabaa, word-abababab}
+use Rattle.paths.specs.Calls.{pathOutcome, pathTable, inRun?, pathJudgedOutcome}
+use Rattle.periods.proofs.Words.{one-and, word-aa, word-aaaa, word-aabaabaa, word-abababab}
 
 -- ---- the path of a split
 
@@ -41,6 +43,15 @@ pub path-of-3-8 : pathOutcome word-aabaabaa 1 (3 ∷ 8 ∷ []) 0 ≡ refused 4 1
 unfolding pathOutcome splitOutcome verdict repetition? smallestPeriod badEdition? turnsOf
 path-of-3-8 = refl
 
+-- "4 now covers a unit above 256 in every call that gives it for blocks": one pass of code 1 and 256 of code 0, all wound twice; with 255 of code 0 there is a path
+pub path-of-unit-257 : pathOutcome (power 2 (one-and 256)) 1 (514 ∷ []) 1 ≡ refused 4 1
+unfolding pathOutcome splitOutcome verdict repetition? smallestPeriod badEdition? turnsOf
+path-of-unit-257 = refl
+
+pub path-of-unit-256 : pathOutcome (power 2 (one-and 255)) 1 (512 ∷ []) 1 ≡ accepted (1 ∷ [])
+unfolding pathOutcome splitOutcome verdict repetition? smallestPeriod badEdition? turnsOf
+path-of-unit-256 = refl
+
 -- ---- three paths, node by node
 
 abbrev run-1 : Record
@@ -58,17 +69,17 @@ unfolding runsOf rowsBefore rowsAt runBetween run? rootOf leastStart repetition?
 numbered-2 = refl
 
 -- "from first+2×unit−1 to last": run 1 has a white node at 2, run 2 at 6, 7 and 8
-white-1 : White anyPeriod 2 (runsOf word-aabaabaa) 1 2
+white-1 : White heldPeriod 2 (runsOf word-aabaabaa) 1 2
 white-1 = record { run = run-1; numbered = numbered-1; from = omega arith; to = omega arith; permitted = tt }
 
-white-2 : (x : ℕ) → 6 ≤ x → x ≤ 8 → White anyPeriod 2 (runsOf word-aabaabaa) 2 x
+white-2 : (x : ℕ) → 6 ≤ x → x ≤ 8 → White heldPeriod 2 (runsOf word-aabaabaa) 2 x
 white-2 x a b = record { run = run-2; numbered = numbered-2; from = omega arith; to = b; permitted = tt }
 
 -- 2,8: the diagonal of run 1 to position 2, the drop to joint 2, the diagonal of run 2 to position 8, the drop to joint 8
 abbrev nodes-of-2-8 : List Node
 nodes-of-2-8 = white 1 2 ∷ black 2 ∷ white 2 8 ∷ black 8 ∷ []
 
-pub walk-of-2-8 : Path anyPeriod 2 word-aabaabaa 8 nodes-of-2-8
+pub walk-of-2-8 : Path heldPeriod 2 word-aabaabaa 8 nodes-of-2-8
 walk-of-2-8 = (
   (omega arith, white-1, record { run = run-1; numbered = numbered-1; span = refl }),
   (
@@ -96,7 +107,7 @@ weight-of-2-8 = refl
 abbrev nodes-of-8 : List Node
 nodes-of-8 = white 2 6 ∷ white 2 7 ∷ white 2 8 ∷ black 8 ∷ []
 
-pub walk-of-8 : Path anyPeriod 2 word-aabaabaa 8 nodes-of-8
+pub walk-of-8 : Path heldPeriod 2 word-aabaabaa 8 nodes-of-8
 walk-of-8 = (
   (omega arith, white-2 6 (omega arith) (omega arith), record { run = run-2; numbered = numbered-2; span = refl }),
   (
@@ -126,13 +137,13 @@ numbered-abababab : Entry (runsOf word-abababab) 1 run-of-abababab
 unfolding runsOf rowsBefore rowsAt runBetween run? rootOf leastStart repetition? smallestPeriod
 numbered-abababab = refl
 
-white-in-2 : (x : ℕ) → 6 ≤ x → x ≤ 8 → White anyPeriod 3 (runsOf word-abababab) 1 x
+white-in-2 : (x : ℕ) → 6 ≤ x → x ≤ 8 → White heldPeriod 3 (runsOf word-abababab) 1 x
 white-in-2 x a b = record { run = run-of-abababab; numbered = numbered-abababab; from = omega arith; to = b; permitted = tt }
 
 abbrev nodes-in-2 : List Node
 nodes-in-2 = white 1 6 ∷ white 1 7 ∷ white 1 8 ∷ black 8 ∷ []
 
-pub walk-in-2 : Path anyPeriod 3 word-abababab 8 nodes-in-2
+pub walk-in-2 : Path heldPeriod 3 word-abababab 8 nodes-in-2
 walk-in-2 = (
   (omega arith, white-in-2 6 (omega arith) (omega arith), record { run = run-of-abababab; numbered = numbered-abababab; span = refl }),
   (
@@ -209,6 +220,13 @@ path-run-zero = refl
 pub path-short-of-its-run : pathJudgedOutcome word-aabaabaa 1 (2 ∷ 2 ∷ 2 ∷ 8 ∷ []) ≡ refused 4 1
 unfolding pathJudgedOutcome verdict entryOf runsOf rowsBefore rowsAt runBetween run? repetition? smallestPeriod badEdition? turnsOf
 path-short-of-its-run = refl
+
+-- all of a run of unit 257, wound twice, is no segment of it; of one of unit 256 it is
+pub in-run-of-257 : inRun? heldPeriod 2 (record { first = 1; last = 514; period = 257; root = 2 } ∷ []) 0 514 ≡ false
+in-run-of-257 = refl
+
+pub in-run-of-256 : inRun? heldPeriod 2 (record { first = 1; last = 512; period = 256; root = 2 } ∷ []) 0 512 ≡ true
+in-run-of-256 = refl
 
 -- "10: a path with an odd count of numbers"
 pub path-odd-count : pathJudgedOutcome word-aabaabaa 1 (1 ∷ 2 ∷ 2 ∷ []) ≡ refused 10 0

@@ -2,18 +2,17 @@
 -- one would share a unit's length with it at least, and two runs of one period that do so are one. So the number of a block's run, and whether a piece lies in
 -- the run with a number, can be told from that last run alone. By induction on the records for the last that passes a test. Assumes nothing.
 use mathlib.Core.Path.{_≡_, refl, sym, ap, _∙_, subst}
-use mathlib.Core.Logic.{inl, inr}
+use mathlib.Core.Logic.{_↔_, inl, inr}
 use mathlib.Core.Bool.{Bool, true, false, cond, _&&_}
 use mathlib.Core.List.{List, [], _∷_, _++_}
-use Prim.Native.Nat.{ℕ, zero, suc, _+_, _-_, _*_, _≤_, _<_}
+use Prim.Native.Nat.{ℕ, zero, suc, _+_, _-_, _*_, _≤_}
 use native.Mathlib.Omega.{arith}
 use native.Mathlib.Nat.{mul-le-mul-right}
 use lib.Dec.{T, leb, eqb, leb→le, le→leb, eqb→eq, eqb-refl, eqb·suc-zero}
 use lib.ListN.{length}
-use Rattle.laws.proofs.Tests.{and-intro, and-left, and-right}
-use Rattle.periods.specs.Period.{part, smallestPeriod, anyPeriod}
-use Rattle.periods.proofs.InPlace.{symbol, placed-part}
-use Rattle.periods.proofs.Claims.{smallest-period-is}
+use Rattle.laws.proofs.Tests.{and-intro, and-left, and-right, same-tests}
+use Rattle.periods.specs.Period.{part, smallestPeriod, Repetition, repetition?}
+use Rattle.periods.proofs.InPlace.{symbol}
 use Rattle.runs.specs.declared.Record.{Record}
 use Rattle.runs.specs.Run.{Entry, Before, Sorted}
 use Rattle.runs.specs.Table.{runsOf}
@@ -22,11 +21,13 @@ use Rattle.runs.proofs.InPlace.{RunIn, run-in, run-unique}
 use Rattle.runs.proofs.Entries.{no-entry, entry-bounds, entry-same}
 use Rattle.runs.proofs.Listed.{runs-listed}
 use Rattle.runs.proofs.Number.{Passes}
-use Rattle.repetitions.specs.Block.{Block}
+use Rattle.factorizer.proofs.Pieces.{piece-sound, piece-complete}
+use Rattle.factorizer.proofs.Rules.{repetition-decides}
+use Rattle.repetitions.specs.Block.{Block, block?}
 use Rattle.paths.specs.Graph.{Segment}
 use Rattle.paths.specs.LookUp.{entryOf, lastNumber, startsBy, latestNumber}
 use Rattle.paths.specs.Calls.{inRun?}
-use Rattle.paths.proofs.Encodings.{segment-period, block-segment}
+use Rattle.paths.proofs.Encodings.{segment-period, segment-block, block-segment}
 use Rattle.paths.proofs.PathClaims.{run-number-segment}
 use Rattle.paths.proofs.PathJudgeClaims.{segment-decides}
 
@@ -103,19 +104,19 @@ sorted-first (x ∷ xs) S (suc (suc i)) (suc (suc j)) r s h k l = sorted-first x
 
 -- ---- the last run with the unit of a piece that starts at or before it
 
-module _ (k : ℕ) (two : 2 ≤ k) (w : List ℕ) (r i j : ℕ) (S : Segment anyPeriod k w r i j) where
+module _ (allowed : ℕ → Bool) (k : ℕ) (two : 2 ≤ k) (w : List ℕ) (r i j : ℕ) (S : Segment allowed k w r i j) where
   abbrev unit : ℕ
   unit = smallestPeriod (part w i j)
 
   -- the run in its place
   enclosing : RunIn (symbol w) (length w) (S .run .first - 1) (S .run .last) unit
   enclosing =
-      subst (λ (p : ℕ). RunIn (symbol w) (length w) (S .run .first - 1) (S .run .last) p) (segment-period anyPeriod k w two r i j S)
+      subst (λ (p : ℕ). RunIn (symbol w) (length w) (S .run .first - 1) (S .run .last) p) (segment-period allowed k w two r i j S)
       (run-in w (S .run .first) (S .run .last) (S .run .period) (runs-listed w .sound r (S .run) (S .numbered)))
 
   long : i + 2 * unit ≤ j
   long =
-      omega (arith, mul-le-mul-right unit two, subst (λ (p : ℕ). i + k * p ≤ j) (segment-period anyPeriod k w two r i j S) (S .long))
+      omega (arith, mul-le-mul-right unit two, subst (λ (p : ℕ). i + k * p ≤ j) (segment-period allowed k w two r i j S) (S .long))
 
   passes : Passes (startsBy unit i) (runsOf w) r
   passes = record {
@@ -123,7 +124,7 @@ module _ (k : ℕ) (two : 2 ≤ k) (w : List ℕ) (r i j : ℕ) (S : Segment any
     entry = S .numbered;
     passed =
         and-intro (leb (S .run .first) (i + 1)) (eqb (S .run .period) unit) (le→leb (S .run .first) (i + 1) (S .starts))
-        (subst (λ (p : ℕ). T (eqb (S .run .period) p)) (segment-period anyPeriod k w two r i j S) (eqb-refl (S .run .period)));
+        (subst (λ (p : ℕ). T (eqb (S .run .period) p)) (segment-period allowed k w two r i j S) (eqb-refl (S .run .period)));
   }
 
   -- another that passes, and comes no earlier in the table, is the same
@@ -138,7 +139,7 @@ module _ (k : ℕ) (two : 2 ≤ k) (w : List ℕ) (r i j : ℕ) (S : Segment any
       let u = run-unique (symbol w) (length w) (S .run .first - 1) (S .run .last) (q .first - 1) (q .last) (q .first - 1) (q .first - 1 + unit) unit enclosing R
       (omega arith) (omega (arith, long, S .ends, Q .starts)) (omega arith) (omega (arith, R .twice)) (omega arith) in
       entry-same (runsOf w) (runs-listed w .sorted) m r q (S .run) (P .entry) (S .numbered)
-      (omega (arith, u .0, Q .starts, runs-listed w .sound r (S .run) (S .numbered) .starts)) (e ∙ sym (segment-period anyPeriod k w two r i j S))
+      (omega (arith, u .0, Q .starts, runs-listed w .sound r (S .run) (S .numbered) .starts)) (e ∙ sym (segment-period allowed k w two r i j S))
 
   -- CLAIM: the run that a piece of two turns or more lies in, with its unit, is the last run with that unit that starts at or before it
   pub latest-run : latestNumber w unit i ≡ r
@@ -153,52 +154,34 @@ module _ (k : ℕ) (two : 2 ≤ k) (w : List ℕ) (r i j : ℕ) (S : Segment any
       go (suc m) e = latest-same (suc m) (omega (arith, least, e)) (last-sound (startsBy unit i) (runsOf w) m e)
 
 -- CLAIM: so it has the number of a block's run
-pub block-latest : (w : List ℕ) (i j p : ℕ) → Block anyPeriod 2 w i j → p ≡ smallestPeriod (part w i j) → latestNumber w p i ≡ runNumber w i j
-block-latest w i j p K e =
-    ap (λ (q : ℕ). latestNumber w q i) e ∙ latest-run 2 (omega arith) w (runNumber w i j) i j (run-number-segment 2 (omega arith) w i j K)
+pub block-latest : (allowed : ℕ → Bool) (w : List ℕ) (i j p : ℕ) → Block allowed 2 w i j → p ≡ smallestPeriod (part w i j) → latestNumber w p i ≡ runNumber w i j
+block-latest allowed w i j p K e =
+    ap (λ (q : ℕ). latestNumber w q i) e ∙ latest-run allowed 2 (omega arith) w (runNumber w i j) i j (run-number-segment allowed 2 (omega arith) w i j K)
 
 -- ---- whether a piece lies in the run with a number
 
-same-tests : (x y : Bool) → (T x → T y) → (T y → T x) → x ≡ y
-same-tests true true f g = refl
-same-tests true false f g = absurd (f tt)
-same-tests false true f g = absurd (g tt)
-same-tests false false f g = refl
-
--- CLAIM: a piece lies in the run with a number, and is long enough for it, exactly when it is long enough by its own unit and that run is the last with this unit
--- that starts at or before it
-pub in-run-latest : (k : ℕ) → 2 ≤ k → (w : List ℕ) (r i j : ℕ) → i < j → j ≤ length w
-    → inRun? anyPeriod k (entryOf (runsOf w) r) i j ≡ (leb (i + k * smallestPeriod (part w i j)) j && eqb (latestNumber w (smallestPeriod (part w i j)) i) r)
-in-run-latest k two w r i j up within = same-tests (inRun? anyPeriod k (entryOf (runsOf w) r) i j) (enough && same) (λ h. there (D .0 h)) (λ h. D .1 (back h))
+-- CLAIM: a piece lies in the run with a number, and is long enough for it, exactly when it is a block and that run is the last with its unit that starts at or
+-- before it
+pub in-run-latest : (allowed : ℕ → Bool) (k : ℕ) → 2 ≤ k → (w : List ℕ) (r i j : ℕ)
+    → inRun? allowed k (entryOf (runsOf w) r) i j ≡ (block? allowed k w i j && eqb (latestNumber w (smallestPeriod (part w i j)) i) r)
+in-run-latest allowed k two w r i j = same-tests (inRun? allowed k (entryOf (runsOf w) r) i j) (block && same) (λ h. there (D .0 h)) (λ h. D .1 (back h))
   where
-    u : ℕ
-    u = smallestPeriod (part w i j)
-
-    enough : Bool
-    enough = leb (i + k * u) j
+    block : Bool
+    block = block? allowed k w i j
 
     same : Bool
-    same = eqb (latestNumber w u i) r
+    same = eqb (latestNumber w (smallestPeriod (part w i j)) i) r
 
-    D : (T (inRun? anyPeriod k (entryOf (runsOf w) r) i j) → Segment anyPeriod k w r i j) × (Segment anyPeriod k w r i j → T (inRun? anyPeriod k (entryOf (runsOf w) r) i j))
-    D = segment-decides anyPeriod k w r i j
+    D : T (inRun? allowed k (entryOf (runsOf w) r) i j) ↔ Segment allowed k w r i j
+    D = segment-decides allowed k w r i j
 
-    there : Segment anyPeriod k w r i j → T (enough && same)
+    there : Segment allowed k w r i j → T (block && same)
     there S =
-        and-intro enough same (le→leb (i + k * u) j (subst (λ (p : ℕ). i + k * p ≤ j) (segment-period anyPeriod k w two r i j S) (S .long)))
-        (subst (λ (m : ℕ). T (eqb m r)) (sym (latest-run k two w r i j S)) (eqb-refl r))
+        and-intro block same (piece-complete (Repetition allowed k) (repetition? allowed k) (repetition-decides allowed k) w i j (segment-block allowed k w two r i j S))
+        (subst (λ (m : ℕ). T (eqb m r)) (sym (latest-run allowed k two w r i j S)) (eqb-refl r))
 
-    long : length (part w i j) ≡ j - i
-    long = placed-part w i j within .long
-
-    block : i + k * u ≤ j → Block anyPeriod k w i j
-    block h = (
-      within,
-      record { period = u; smallest = smallest-period-is (part w i j) (omega (arith, long)); long = omega (arith, long); permitted = tt },
-    )
-
-    back : T (enough && same) → Segment anyPeriod k w r i j
+    back : T (block && same) → Segment allowed k w r i j
     back h =
-        let s = block-segment anyPeriod k w two i j (block (leb→le (i + k * u) j (and-left enough same h))) in
-        subst (λ (m : ℕ). Segment anyPeriod k w m i j)
-        (sym (latest-run k two w (s .0) i j (s .1)) ∙ eqb→eq (latestNumber w u i) r (and-right enough same h)) (s .1)
+        let s = block-segment allowed k w two i j (piece-sound (Repetition allowed k) (repetition? allowed k) (repetition-decides allowed k) w i j (and-left block same h)) in
+        subst (λ (m : ℕ). Segment allowed k w m i j)
+        (sym (latest-run allowed k two w (s .0) i j (s .1)) ∙ eqb→eq (latestNumber w (smallestPeriod (part w i j)) i) r (and-right block same h)) (s .1)

@@ -1,18 +1,18 @@
 -- The runs are noted one after the other, up to the first that starts after a boundary: then what is noted at a period is the last run with that period that
 -- starts at or before the boundary (`noted-latest`), since the firsts in the table never fall. So the test of a piece of a path goes by the unit of the piece and
 -- what is noted at it. By induction on the count of the records. Assumes nothing.
-use mathlib.Core.Path.{_≡_, refl, sym, ap, _∙_, subst}
+use mathlib.Core.Path.{_≡_, refl, sym, ap, ap₂, _∙_, subst}
 use mathlib.Core.Bool.{Bool, cond, _&&_}
 use mathlib.Core.List.{List, _∷_, _++_}
 use Prim.Native.Nat.{ℕ, zero, suc, _+_, _-_, _*_, _≤_, _<_}
 use native.Mathlib.Omega.{arith}
 use native.Mathlib.Decide.{decLt, ℕ-discrete}
 use borrow.Author.Tests.{le-leb, lt-leb, eq-eqb, ne-eqb}
-use lib.Dec.{leb, eqb}
+use lib.Dec.{eqb}
 use lib.ListN.{length, getD, set, replicate, length-set, length-replicate, getD-replicate}
 use lib.Seq.{getD-set-same, getD-set-other}
 use Rattle.answers.specs.Outcome.{limit}
-use Rattle.periods.specs.Period.{part, smallestPeriod, anyPeriod}
+use Rattle.periods.specs.Period.{part, smallestPeriod, heldPeriod, blockOf?}
 use Rattle.runs.specs.declared.Record.{Record}
 use Rattle.runs.specs.Run.{Entry, Sorted}
 use Rattle.runs.specs.Table.{runsOf, stride, recordAt, records}
@@ -25,6 +25,7 @@ use Rattle.halves.specs.Scratch.{listed}
 use Rattle.halves.proofs.Records.{records-listed}
 use Rattle.paths.specs.LookUp.{lastNumber, hasPeriod, startsBy, latestNumber, Runs, Noted, NextLater}
 use Rattle.paths.specs.Calls.{segment?}
+use Rattle.paths.proofs.NumberLaws.{piece-by-unit}
 use Rattle.paths.proofs.PathJudgeClaims.{segment-given}
 use Rattle.paths.proofs.Latest.{last-none, last-more, sorted-first, in-run-latest}
 
@@ -143,8 +144,7 @@ module _ (w rows : List ℕ) (count places i next : ℕ) (latest : List ℕ) (R 
 
 -- it is decided by the unit u of the piece and by what is noted at it
 pub piece-tested : (turns : ℕ) → 2 ≤ turns → (w ns : List ℕ) (k i j u m : ℕ) (r : Bool) → k + k + 1 < length ns → i < j → j ≤ length w → u ≡ smallestPeriod (part w i j)
-    → m ≡ latestNumber w u i → r ≡ (leb (i + turns * u) j && eqb m (getD ns (k + k) 0)) → r ≡ segment? anyPeriod turns w ns (suc k) i j
+    → m ≡ latestNumber w u i → r ≡ (blockOf? turns (j - i) u && eqb m (getD ns (k + k) 0)) → r ≡ segment? heldPeriod turns w ns (suc k) i j
 piece-tested turns two w ns k i j u m r inside up within e f g =
-    g ∙ ap (λ (x : ℕ). leb (i + turns * u) j && eqb x (getD ns (k + k) 0)) f
-    ∙ ap (λ (p : ℕ). leb (i + turns * p) j && eqb (latestNumber w p i) (getD ns (k + k) 0)) e
-    ∙ sym (segment-given turns w ns k i j inside ∙ in-run-latest turns two w (getD ns (k + k) 0) i j up within)
+    g ∙ ap₂ (λ (b : Bool) (x : ℕ). b && eqb x (getD ns (k + k) 0)) (sym (piece-by-unit heldPeriod turns w i j u up within e)) (f ∙ ap (λ (p : ℕ). latestNumber w p i) e)
+    ∙ sym (segment-given heldPeriod turns w ns k i j inside ∙ in-run-latest heldPeriod turns two w (getD ns (k + k) 0) i j)

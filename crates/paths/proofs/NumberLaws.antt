@@ -1,38 +1,31 @@
 -- What the loops of path of a split go by: the test of a piece by its unit; what the loops over the blocks have written, and what is there still. By the laws of
 -- lists. Assumes nothing.
 use mathlib.Core.Path.{_≡_, refl, sym, ap, ap₂, _∙_}
-use mathlib.Core.Bool.{true, false}
+use mathlib.Core.Bool.{Bool, _&&_}
 use mathlib.Core.List.{List, _++_}
 use Prim.Native.Nat.{ℕ, suc, _+_, _-_, _*_, _≤_, _<_}
 use native.Mathlib.Omega.{arith}
 use native.Mathlib.Nat.{zero-add}
 use native.Mathlib.Numerals.{add-one}
-use borrow.Author.Tests.{le-leb, lt-leb}
+use borrow.Author.Tests.{le-leb}
 use lib.Dec.{leb}
 use lib.ListN.{length, getD, set, take, drop, length-append, length-take, length-drop}
 use lib.Seq.{take-all, length-take-le, take-at, drop-at, drop-cons, getD-take, getD-at, paste-suc}
-use Rattle.periods.specs.Period.{part, smallestPeriod, repetition?, anyPeriod}
+use Rattle.periods.specs.Period.{part, smallestPeriod, heldPeriod}
 use Rattle.periods.proofs.InPlace.{placed-part}
-use Rattle.periods.proofs.PartClaims.{repetition-any}
+use Rattle.periods.proofs.Claims.{repetition-by-unit}
 use Rattle.factors.proofs.BlockByBlock.{of-blocks-length, Taken, next-number}
-use Rattle.factorizer.specs.Piece.{piece?}
-use Rattle.repetitions.specs.Block.{Block}
+use Rattle.repetitions.specs.Block.{Block, block?}
 use Rattle.paths.specs.Calls.{runNumbers}
 use Rattle.paths.specs.Walk.{blockUnits}
 
 -- ---- the test of a piece, by its unit u
 
-module _ (turns : ℕ) (w : List ℕ) (i j u : ℕ) (up : i < j) (within : j ≤ length w) (is : u ≡ smallestPeriod (part w i j)) where
-  measured : piece? (repetition? anyPeriod turns) w i j ≡ leb (turns * u) (j - i)
-  measured =
-      let n = placed-part w i j within .long in
-      rw (le-leb j (length w) within) (repetition-any turns (part w i j) (omega (arith, n)) ∙ rw (n, is) refl)
-
-  pub piece-short : j - i < turns * u → piece? (repetition? anyPeriod turns) w i j ≡ false
-  piece-short h = measured ∙ lt-leb (turns * u) (j - i) h
-
-  pub piece-long : turns * u ≤ j - i → piece? (repetition? anyPeriod turns) w i j ≡ true
-  piece-long h = measured ∙ le-leb (turns * u) (j - i) h
+pub piece-by-unit : (allowed : ℕ → Bool) (k : ℕ) (w : List ℕ) (i j u : ℕ) → i < j → j ≤ length w → u ≡ smallestPeriod (part w i j)
+    → block? allowed k w i j ≡ (leb (k * u) (j - i) && allowed u)
+piece-by-unit allowed k w i j u up within is =
+    let n = placed-part w i j within .long in
+    rw (le-leb j (length w) within) (repetition-by-unit allowed k (part w i j) (omega (arith, n)) ∙ rw (n, is) refl)
 
 -- ---- the table
 
@@ -58,7 +51,7 @@ module _ (t ns : List ℕ) (enough : length ns ≤ length t) (k : ℕ) (u : List
       rw e at W ∙ ap (λ (x : List ℕ). x ++ drop (length ns) t) (take-all (length ns) ns (omega arith))
 
 -- a unit that stands in the table
-pub unit-there : (w ends t : List ℕ) (before k : ℕ) → Taken (Block anyPeriod 2 w) ends (length w) k before → k < length ends → take (length ends) t ≡ blockUnits w 0 ends
+pub unit-there : (w ends t : List ℕ) (before k : ℕ) → Taken (Block heldPeriod 2 w) ends (length w) k before → k < length ends → take (length ends) t ≡ blockUnits w 0 ends
     → getD t k 0 ≡ smallestPeriod (part w before (getD ends k 0))
 unit-there w ends t before k P l e = sym (getD-take (length ends) t k 0 l) ∙ ap (λ (x : List ℕ). getD x k 0) e ∙ next-number P l (λ a b. smallestPeriod (part w a b))
 

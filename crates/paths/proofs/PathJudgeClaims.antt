@@ -14,7 +14,7 @@ use lib.ListN.{length, getD}
 use Rattle.laws.proofs.Tests.{T-true, and-intro, and-left, and-right}
 use Rattle.answers.proofs.Claims.{refused-accepted}
 use Rattle.answers.specs.Outcome.{Outcome, accepted, refused, limit}
-use Rattle.periods.specs.Period.{anyPeriod}
+use Rattle.periods.specs.Period.{heldPeriod}
 use Rattle.periods.specs.Edition.{Edition, turnsOf}
 use Rattle.periods.proofs.Editions.{two-turns, test-of-edition, test-of-no-edition, edition?}
 use Rattle.runs.specs.declared.Record.{Record}
@@ -80,31 +80,31 @@ module _ (allowed : ℕ → Bool) (k : ℕ) (w : List ℕ) (r i j : ℕ) where
   segment-decides = (in-run-sound (entryOf (runsOf w) r) refl, in-run-complete)
 
 -- the test of block number k + 1, from the run number that is given for it
-pub segment-given : (turns : ℕ) (w ns : List ℕ) (k i j : ℕ) → k + k + 1 < length ns
-    → segment? anyPeriod turns w ns (suc k) i j ≡ inRun? anyPeriod turns (entryOf (runsOf w) (getD ns (k + k) 0)) i j
-segment-given turns w ns k i j h =
+pub segment-given : (allowed : ℕ → Bool) (turns : ℕ) (w ns : List ℕ) (k i j : ℕ) → k + k + 1 < length ns
+    → segment? allowed turns w ns (suc k) i j ≡ inRun? allowed turns (entryOf (runsOf w) (getD ns (k + k) 0)) i j
+segment-given allowed turns w ns k i j h =
     let f : suc k - 1 ≡ k = omega arith in
-    ap (λ (m : ℕ). inRun? anyPeriod turns (entryOf (runsOf w) m) i j) (ap (λ (m : ℕ). getD (runsOfPairs ns) m 0) f ∙ run-given ns k h)
+    ap (λ (m : ℕ). inRun? allowed turns (entryOf (runsOf w) m) i j) (ap (λ (m : ℕ). getD (runsOfPairs ns) m 0) f ∙ run-given ns k h)
 
 -- ---- accepted exactly when the numbers are segments
 
-module _ (turns : ℕ) (two : 2 ≤ turns) (w : List ℕ) (t : ℕ → ℕ → ℕ → Bool) where
+module _ (allowed : ℕ → Bool) (turns : ℕ) (two : 2 ≤ turns) (w : List ℕ) (t : ℕ → ℕ → ℕ → Bool) where
   -- from block number k + 1 on the test goes by the run numbers of ns
   abbrev Agrees : ℕ → List ℕ → Type 0
-  Agrees k ns = (m i j : ℕ) → (T (t (suc (k + m)) i j) ↔ Segment anyPeriod turns w (getD (runsOfPairs ns) m 0) i j)
+  Agrees k ns = (m i j : ℕ) → (T (t (suc (k + m)) i j) ↔ Segment allowed turns w (getD (runsOfPairs ns) m 0) i j)
 
-  agrees-first : (k r e : ℕ) (ns : List ℕ) → Agrees k (r ∷ e ∷ ns) → (i j : ℕ) → (T (t (suc k) i j) ↔ Segment anyPeriod turns w r i j)
+  agrees-first : (k r e : ℕ) (ns : List ℕ) → Agrees k (r ∷ e ∷ ns) → (i j : ℕ) → (T (t (suc k) i j) ↔ Segment allowed turns w r i j)
   agrees-first k r e ns A i j =
       let z : k + 0 ≡ k = omega arith in
-      subst (λ (m : ℕ). T (t (suc m) i j) ↔ Segment anyPeriod turns w r i j) z (A 0 i j)
+      subst (λ (m : ℕ). T (t (suc m) i j) ↔ Segment allowed turns w r i j) z (A 0 i j)
 
   agrees-rest : (k r e : ℕ) (ns : List ℕ) → Agrees k (r ∷ e ∷ ns) → Agrees (suc k) ns
   agrees-rest k r e ns A m i j =
       let z : k + suc m ≡ suc k + m = omega arith in
-      subst (λ (x : ℕ). T (t (suc x) i j) ↔ Segment anyPeriod turns w (getD (runsOfPairs ns) m 0) i j) z (A (suc m) i j)
+      subst (λ (x : ℕ). T (t (suc x) i j) ↔ Segment allowed turns w (getD (runsOfPairs ns) m 0) i j) z (A (suc m) i j)
 
   accepted-segments : (ns : List ℕ) (k i : ℕ) (v : List ℕ) → length ns % 2 ≡ 0 → Agrees k ns → verdictFrom t (length w) k i (endsOfPairs ns) ≡ accepted v
-      → Segments anyPeriod turns w i ns (length w)
+      → Segments allowed turns w i ns (length w)
   accepted-segments [] k i v q A h = go (ℕ-discrete i (length w))
     where
       go : Dec (i ≡ length w) → i ≡ length w
@@ -117,42 +117,42 @@ module _ (turns : ℕ) (two : 2 ≤ turns) (w : List ℕ) (t : ℕ → ℕ → �
       es : List ℕ
       es = endsOfPairs ns
 
-      go : (verdictFrom t (length w) (suc k) e es ≡ accepted v → Segments anyPeriod turns w e ns (length w)) → Dec (i < e) → Dec (e ≤ length w)
-          → (b : Bool) → t (suc k) i e ≡ b → Segment anyPeriod turns w r i e × Segments anyPeriod turns w e ns (length w)
+      go : (verdictFrom t (length w) (suc k) e es ≡ accepted v → Segments allowed turns w e ns (length w)) → Dec (i < e) → Dec (e ≤ length w)
+          → (b : Bool) → t (suc k) i e ≡ b → Segment allowed turns w r i e × Segments allowed turns w e ns (length w)
       go ih (no a) d b z = absurd (refused-accepted _ 3 (suc k) v (verdict-low t (length w) k i e es (omega arith)) h)
       go ih (yes a) (no d) b z = absurd (refused-accepted _ 3 (suc k) v (verdict-high t (length w) k i e es (omega arith)) h)
       go ih (yes a) (yes d) false z = absurd (refused-accepted _ 4 (suc k) v (verdict-no-block t (length w) k i e es a d z) h)
       go ih (yes a) (yes d) true z =
           (agrees-first k r e ns A i e .0 (subst T (sym z) tt), ih (sym (verdict-block t (length w) k i e es a d z) ∙ h))
 
-  segments-accepted : (ns : List ℕ) (k i : ℕ) → Agrees k ns → Segments anyPeriod turns w i ns (length w)
+  segments-accepted : (ns : List ℕ) (k i : ℕ) → Agrees k ns → Segments allowed turns w i ns (length w)
       → verdictFrom t (length w) k i (endsOfPairs ns) ≡ accepted ((k + length (endsOfPairs ns)) ∷ [])
   segments-accepted [] k i A s = verdict-finished t (length w) k i s ∙ ap (λ (x : ℕ). accepted (x ∷ [])) (omega arith)
   segments-accepted (r ∷ []) k i A s = absurd s
   segments-accepted (r ∷ e ∷ ns) k i A s =
-      verdict-block t (length w) k i e (endsOfPairs ns) (block-up anyPeriod turns w i e (segment-block anyPeriod turns w two r i e (s .0)))
-      (segment-within anyPeriod turns w r i e (s .0)) (T-true (t (suc k) i e) (agrees-first k r e ns A i e .1 (s .0)))
+      verdict-block t (length w) k i e (endsOfPairs ns) (block-up allowed turns w i e (segment-block allowed turns w two r i e (s .0)))
+      (segment-within allowed turns w r i e (s .0)) (T-true (t (suc k) i e) (agrees-first k r e ns A i e .1 (s .0)))
       ∙ segments-accepted ns (suc k) e (agrees-rest k r e ns A) (s .1) ∙ ap (λ (x : ℕ). accepted (x ∷ [])) (omega arith)
 
-module _ (turns : ℕ) (w ns : List ℕ) where
-  pub decides : (m i j : ℕ) → (T (segment? anyPeriod turns w ns m i j) ↔ Segment anyPeriod turns w (numberGiven ns m) i j)
-  decides m i j = segment-decides anyPeriod turns w (numberGiven ns m) i j
+module _ (allowed : ℕ → Bool) (turns : ℕ) (w ns : List ℕ) where
+  pub decides : (m i j : ℕ) → (T (segment? allowed turns w ns m i j) ↔ Segment allowed turns w (numberGiven ns m) i j)
+  decides m i j = segment-decides allowed turns w (numberGiven ns m) i j
 
-  agrees : (two : 2 ≤ turns) → Agrees turns two w (segment? anyPeriod turns w ns) 0 ns
+  agrees : (two : 2 ≤ turns) → Agrees allowed turns two w (segment? allowed turns w ns) 0 ns
   agrees two m i j =
       let z : suc (0 + m) - 1 ≡ m = omega arith in
-      subst (λ (x : ℕ). T (segment? anyPeriod turns w ns (suc (0 + m)) i j) ↔ Segment anyPeriod turns w (getD (runsOfPairs ns) x 0) i j) z (decides (suc (0 + m)) i j)
+      subst (λ (x : ℕ). T (segment? allowed turns w ns (suc (0 + m)) i j) ↔ Segment allowed turns w (getD (runsOfPairs ns) x 0) i j) z (decides (suc (0 + m)) i j)
 
   -- CLAIM: accepted with the number of blocks, exactly when the numbers encode a path of the word's length
   pub path-accepted : 2 ≤ turns → length ns % 2 ≡ 0
-      → ((verdict (segment? anyPeriod turns w ns) (length w) (endsOfPairs ns) ≡ accepted (length ns / 2 ∷ []))
-      ↔ ((xs : List Node) × Path anyPeriod turns w (length w) xs × (encoding (black 0) xs ≡ ns)))
+      → ((verdict (segment? allowed turns w ns) (length w) (endsOfPairs ns) ≡ accepted (length ns / 2 ∷ []))
+      ↔ ((xs : List Node) × Path allowed turns w (length w) xs × (encoding (black 0) xs ≡ ns)))
   unfolding verdict
   path-accepted two q = (
-    (λ h. encodes anyPeriod turns w (length w) ns (accepted-segments turns two w (segment? anyPeriod turns w ns) ns 0 0 (length ns / 2 ∷ []) q (agrees two) h)),
+    (λ h. encodes allowed turns w (length w) ns (accepted-segments allowed turns two w (segment? allowed turns w ns) ns 0 0 (length ns / 2 ∷ []) q (agrees two) h)),
     (λ p.
-        segments-accepted turns two w (segment? anyPeriod turns w ns) ns 0 0 (agrees two)
-        (subst (λ (ms : List ℕ). Segments anyPeriod turns w 0 ms (length w)) (p .2) (encoded anyPeriod turns w (length w) (p .0) (p .1)))
+        segments-accepted allowed turns two w (segment? allowed turns w ns) ns 0 0 (agrees two)
+        (subst (λ (ms : List ℕ). Segments allowed turns w 0 ms (length w)) (p .2) (encoded allowed turns w (length w) (p .0) (p .1)))
         ∙ ap (λ (x : ℕ). accepted (x ∷ [])) (omega (arith, length-ends-of-pairs ns))),
   )
 
@@ -170,7 +170,7 @@ module _ (w : List ℕ) (edition : ℕ) (ns : List ℕ) where
   path-odd h i q = simp (le-ltb limit (length w) h, test-of-edition edition i, eq-eqb (length ns % 2) 1 q)
 
   pub path-judged : length w ≤ limit → Edition edition → (length ns % 2 ≡ 1 → ⊥)
-      → verdict (segment? anyPeriod (turnsOf edition) w ns) (length w) (endsOfPairs ns) ≡ pathJudgedOutcome w edition ns
+      → verdict (segment? heldPeriod (turnsOf edition) w ns) (length w) (endsOfPairs ns) ≡ pathJudgedOutcome w edition ns
   unfolding pathJudgedOutcome
   path-judged h i q = simp (le-ltb limit (length w) h, test-of-edition edition i, ne-eqb (length ns % 2) 1 q)
 
@@ -189,8 +189,8 @@ module _ (w : List ℕ) (edition : ℕ) (ns : List ℕ) where
           judged (omega arith) i (omega arith)
           (subst (PathJudged k w ns) (path-judged (omega arith) i q)
           record {
-            verdict-on = verdict-means (segment? anyPeriod k w ns) (λ m i j. Segment anyPeriod k w (numberGiven ns m) i j) (λ m i j. decides k w ns m i j .0) (λ m i j. decides k w ns m i j .1) (length w) (endsOfPairs ns);
-            accepts = path-accepted k w ns (two-turns edition) (omega arith);
+            verdict-on = verdict-means (segment? heldPeriod k w ns) (λ m i j. Segment heldPeriod k w (numberGiven ns m) i j) (λ m i j. decides heldPeriod k w ns m i j .0) (λ m i j. decides heldPeriod k w ns m i j .1) (length w) (endsOfPairs ns);
+            accepts = path-accepted heldPeriod k w ns (two-turns edition) (omega arith);
           })
 
   pub path-judged-answered : (o : Outcome) → o ≡ pathJudgedOutcome w edition ns → (o ≡ pathJudgedOutcome w edition ns) × PathJudgedMeaning w edition ns o

@@ -7,7 +7,7 @@ use mathlib.Core.List.{List, [], _∷_}
 use Prim.Native.Nat.{ℕ, _+_, _≤_, _<_}
 use native.Mathlib.Omega.{arith}
 use lib.ListN.{length, take}
-use Rattle.periods.specs.Period.{anyPeriod, Repetition, repetition?}
+use Rattle.periods.specs.Period.{heldPeriod, Repetition, repetition?}
 use Rattle.periods.specs.Edition.{turnsOf}
 use Rattle.periods.proofs.Editions.{two-turns}
 use Rattle.factors.specs.Factorization.{Factorization}
@@ -82,7 +82,7 @@ module _ (allowed : ℕ → Bool) (k : ℕ) (w : List ℕ) where
       weighs = λ xs v. walk-weighs t xs .0 0 v;
     }
 
--- CLAIM: the instance for the graph of an edition, in which a block has that edition's turns and any period. turnsOf 1 is 2 and turnsOf 2 is 3; it holds for
--- any other number too, of which no call makes use
-pub edition-one-to-one : (edition : ℕ) (w : List ℕ) (t : ℕ) → t ≤ length w → OneToOne anyPeriod (turnsOf edition) w t
-edition-one-to-one edition w t h = one-to-one anyPeriod (turnsOf edition) w (two-turns edition) t h
+-- CLAIM: the instance for the graph of an edition, in which a block has that edition's turns and a unit that memory holds. turnsOf 1 is 2 and turnsOf 2 is 3; it
+-- holds for any other number too, of which no call makes use
+pub edition-one-to-one : (edition : ℕ) (w : List ℕ) (t : ℕ) → t ≤ length w → OneToOne heldPeriod (turnsOf edition) w t
+edition-one-to-one edition w t h = one-to-one heldPeriod (turnsOf edition) w (two-turns edition) t h

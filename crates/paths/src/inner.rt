@@ -7,10 +7,10 @@ ghost use mathlib.Core.Path.{_≡_};
 ghost use mathlib.Core.Bool.{_&&_};
 ghost use mathlib.Core.List.{_++_};
 ghost use Prim.Native.Nat.{_≤_, _<_, _+_, _*_, _%_};
-ghost use lib.Dec.{leb, eqb};
+ghost use lib.Dec.{eqb};
 ghost use lib.ListN.{length, getD, take, drop};
 ghost use Rattle.answers.specs.Outcome.{countedView, limit};
-ghost use Rattle.periods.specs.Period.{anyPeriod, repetition?};
+ghost use Rattle.periods.specs.Period.{heldPeriod, repetition?, blockOf?};
 ghost use Rattle.periods.specs.Edition.{Turns};
 ghost use Rattle.factors.specs.Verdict.{verdict};
 ghost use Rattle.factorizer.specs.Judge.{pieceVerdict};
@@ -25,7 +25,7 @@ use answers::Refusal;
 
 fn judge_in(w: &[u8], turns: usize, ends: &[u32], units: &mut [u32]) -> Counted
     requires { ⌜ (length (now w) ≤ limit) × (length (now w) ≤ length (now units)) × Turns turns ⌝ }
-    ensures { λ r. ⌜ countedView r ≡ pieceVerdict (repetition? anyPeriod turns) (now (w .entry)) (now (ends .entry)) ⌝ }
+    ensures { λ r. ⌜ countedView r ≡ pieceVerdict (repetition? heldPeriod turns) (now (w .entry)) (now (ends .entry)) ⌝ }
 {
     let n = w.len();
     let mut before: usize = 0;
@@ -37,7 +37,7 @@ fn judge_in(w: &[u8], turns: usize, ends: &[u32], units: &mut [u32]) -> Counted
             return Counted::Refused(Refusal::BadEnd(number));
         }
         let unit = periods::inner::units(&w[before..end], units);
-        if end - before < turns * unit {
+        if !periods::inner::is_block_of(turns, end - before, unit) {
             return Counted::Refused(Refusal::NotBlock(number));
         }
         before = end;
@@ -51,7 +51,7 @@ fn judge_in(w: &[u8], turns: usize, ends: &[u32], units: &mut [u32]) -> Counted
 
 fn judge_long(w: &[u8], turns: usize, ends: &[u32]) -> Counted
     requires { ⌜ (length (now w) ≤ limit) × Turns turns ⌝ }
-    ensures { λ r. ⌜ countedView r ≡ pieceVerdict (repetition? anyPeriod turns) (now (w .entry)) (now (ends .entry)) ⌝ }
+    ensures { λ r. ⌜ countedView r ≡ pieceVerdict (repetition? heldPeriod turns) (now (w .entry)) (now (ends .entry)) ⌝ }
 {
     let mut units = [0u32; answers::LIMIT];
     judge_in(w, turns, ends, &mut units)
@@ -199,20 +199,13 @@ pub fn number_blocks(w: &[u8], ends: &[u32], table: &mut [u32])
     numbers_long(w, ends, table);
 }
 
-// Whether a piece between two boundaries has the turns of its unit, and the run noted at the unit is
-// the one with a number.
-fn is_segment(
-    latest: &[u32],
-    run: u32,
-    turns: usize,
-    unit: usize,
-    before: usize,
-    end: usize,
-) -> bool
-    requires { ⌜ (unit < length (now latest)) × (unit ≤ limit) × (before ≤ limit) × Turns turns ⌝ }
-    ensures { λ r. ⌜ r ≡ (leb (before + turns * unit) end && eqb (getD (now (latest .entry)) unit 0) run) ⌝ }
+// Whether a piece of this length with this unit is a block, and the run noted at the unit is the one
+// with a number.
+fn is_segment(latest: &[u32], run: u32, turns: usize, unit: usize, len: usize) -> bool
+    requires { ⌜ (unit < length (now latest)) × Turns turns ⌝ }
+    ensures { λ r. ⌜ r ≡ (blockOf? turns len unit && eqb (getD (now (latest .entry)) unit 0) run) ⌝ }
 {
-    if end < before + turns * unit {
+    if !periods::inner::is_block_of(turns, len, unit) {
         return false;
     }
     latest[unit] == run
@@ -227,7 +220,7 @@ fn follow_in(
     units: &mut [u32],
 ) -> Counted
     requires { ⌜ (length (now numbers) % 2 ≡ 0) × Turns turns × Buffers (now w) (now scratch) (now rows) × (length (now w) ≤ length (now units)) ⌝ }
-    ensures { λ r. ⌜ countedView r ≡ verdict (segment? anyPeriod turns (now (w .entry)) (now (numbers .entry))) (length (now (w .entry))) (endsOfPairs (now (numbers .entry))) ⌝ }
+    ensures { λ r. ⌜ countedView r ≡ verdict (segment? heldPeriod turns (now (w .entry)) (now (numbers .entry))) (length (now (w .entry))) (endsOfPairs (now (numbers .entry))) ⌝ }
 {
     let n = w.len();
     let count = list_runs(w, scratch, rows);
@@ -242,7 +235,7 @@ fn follow_in(
         }
         let unit = periods::inner::units(&w[before..end], units);
         next = note(rows, count, before, next, scratch);
-        if !is_segment(scratch, numbers[k + k], turns, unit, before, end) {
+        if !is_segment(scratch, numbers[k + k], turns, unit, end - before) {
             return Counted::Refused(Refusal::NotBlock(number));
         }
         before = end;
@@ -256,7 +249,7 @@ fn follow_in(
 
 fn follow_short(w: &[u8], turns: usize, numbers: &[u32]) -> Counted
     requires { ⌜ (length (now w) ≤ shortLimit) × (length (now numbers) % 2 ≡ 0) × Turns turns ⌝ }
-    ensures { λ r. ⌜ countedView r ≡ verdict (segment? anyPeriod turns (now (w .entry)) (now (numbers .entry))) (length (now (w .entry))) (endsOfPairs (now (numbers .entry))) ⌝ }
+    ensures { λ r. ⌜ countedView r ≡ verdict (segment? heldPeriod turns (now (w .entry)) (now (numbers .entry))) (length (now (w .entry))) (endsOfPairs (now (numbers .entry))) ⌝ }
 {
     let mut scratch = [0u32; halves::ROWS * (halves::SHORT + 1)];
     let mut rows = [0u32; runs::STRIDE * halves::SHORT];
@@ -266,7 +259,7 @@ fn follow_short(w: &[u8], turns: usize, numbers: &[u32]) -> Counted
 
 fn follow_long(w: &[u8], turns: usize, numbers: &[u32]) -> Counted
     requires { ⌜ (length (now w) ≤ limit) × (length (now numbers) % 2 ≡ 0) × Turns turns ⌝ }
-    ensures { λ r. ⌜ countedView r ≡ verdict (segment? anyPeriod turns (now (w .entry)) (now (numbers .entry))) (length (now (w .entry))) (endsOfPairs (now (numbers .entry))) ⌝ }
+    ensures { λ r. ⌜ countedView r ≡ verdict (segment? heldPeriod turns (now (w .entry)) (now (numbers .entry))) (length (now (w .entry))) (endsOfPairs (now (numbers .entry))) ⌝ }
 {
     let mut scratch = [0u32; halves::ROWS * (answers::LIMIT + 1)];
     let mut rows = [0u32; runs::STRIDE * answers::LIMIT];
@@ -278,7 +271,7 @@ fn follow_long(w: &[u8], turns: usize, numbers: &[u32]) -> Counted
 // the number given is only compared with it. Time: that of the table of runs, and linear.
 pub(crate) fn follow(w: &[u8], turns: usize, numbers: &[u32]) -> Counted
     requires { ⌜ (length (now w) ≤ limit) × (length (now numbers) % 2 ≡ 0) × Turns turns ⌝ }
-    ensures { λ r. ⌜ countedView r ≡ verdict (segment? anyPeriod turns (now (w .entry)) (now (numbers .entry))) (length (now (w .entry))) (endsOfPairs (now (numbers .entry))) ⌝ }
+    ensures { λ r. ⌜ countedView r ≡ verdict (segment? heldPeriod turns (now (w .entry)) (now (numbers .entry))) (length (now (w .entry))) (endsOfPairs (now (numbers .entry))) ⌝ }
 {
     if w.len() <= halves::SHORT {
         return follow_short(w, turns, numbers);

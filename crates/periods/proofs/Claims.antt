@@ -6,6 +6,7 @@ use mathlib.Core.List.{List, [], _∷_, _++_}
 use Prim.Native.Nat.{ℕ, zero, suc, _+_, _-_, _*_, _≤_, _<_}
 use native.Mathlib.Omega.{arith}
 use native.Mathlib.Decide.{decLt, decLe}
+use borrow.Author.Tests.{lt-ltb}
 use lib.Dec.{T, eqb, leb, ltb, eqb→eq, eqb-refl, leb→le, le→leb, ltb→lt, lt→ltb}
 use lib.ListN.{length, getD, take, drop, length-take, length-append, List·getD-append}
 use lib.Seq.{getD-at, take-take}
@@ -79,6 +80,11 @@ module _ (allowed : ℕ → Bool) (k : ℕ) (s : List ℕ) where
       (le→leb (k * smallestPeriod s) (length s) (subst (λ (u : ℕ). k * u ≤ length s) e (R .long)))
       (subst (λ (u : ℕ). T (allowed u)) e (R .permitted)))
 
+  -- the length and the unit decide it
+  pub repetition-by-unit : 0 < length s → repetition? allowed k s ≡ (leb (k * smallestPeriod s) (length s) && allowed (smallestPeriod s))
+  unfolding repetition?
+  repetition-by-unit h = rw (lt-ltb 0 (length s) h) refl
+
 -- the smallest period of a part, in its place
 module _ (w : List ℕ) (a b : ℕ) (l : b ≤ length w) where
   pub part-smallest : a < b → SmallestIn (symbol w) a b (smallestPeriod (part w a b))
@@ -112,18 +118,18 @@ prefix-periods-rise s m n a b c = go (decLe (smallestPeriod (take n s)) m)
     go (yes l) = M .least (smallestPeriod (take n s)) (period-piece (symbol s) (N .period) (omega arith) b (omega arith))
     go (no l) = omega (arith, M .period .fits)
 
--- a part is a prefix of what follows its first boundary
-pub part-prefix : (w : List ℕ) (a b : ℕ) → b ≤ length w → take (b - a) (part w a (length w)) ≡ part w a b
-part-prefix w a b h = take-take (b - a) (length w - a) (drop a w) (omega arith)
+-- a part is a prefix of every longer one after its first boundary
+pub part-prefix : (w : List ℕ) (a b c : ℕ) → b ≤ c → take (b - a) (part w a c) ≡ part w a b
+part-prefix w a b c h = take-take (b - a) (c - a) (drop a w) (omega arith)
 
 -- so the units of the parts after a boundary never fall as the part grows
 pub part-periods-rise : (w : List ℕ) (a b c : ℕ) → a < b → b ≤ c → c ≤ length w → smallestPeriod (part w a b) ≤ smallestPeriod (part w a c)
 part-periods-rise w a b c h k l =
     omega (
       arith,
-      ap smallestPeriod (part-prefix w a b (omega arith)),
-      ap smallestPeriod (part-prefix w a c l),
-      prefix-periods-rise (part w a (length w)) (b - a) (c - a) (omega arith) (omega arith) (omega (arith, placed-part w a (length w) (omega arith) .long)),
+      ap smallestPeriod (part-prefix w a b c k),
+      ap smallestPeriod (part-prefix w a c c (omega arith)),
+      prefix-periods-rise (part w a c) (b - a) (c - a) (omega arith) (omega arith) (omega (arith, placed-part w a c l .long)),
     )
 
 -- ---- the table of the smallest periods of prefixes

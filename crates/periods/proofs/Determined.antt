@@ -10,7 +10,7 @@ use lib.Dec.{T}
 use lib.ListN.{length, getD, take, drop, length-take, take-append-drop}
 use lib.Seq.{getD-take, ext-getD}
 use Rattle.answers.specs.Outcome.{Outcome, accepted}
-use Rattle.periods.specs.Period.{part, repetition?, anyPeriod, prefixPeriods, unitsTable}
+use Rattle.periods.specs.Period.{part, repetition?, heldPeriod, prefixPeriods, unitsTable}
 use Rattle.periods.specs.Edition.{turnsOf}
 use Rattle.periods.specs.Part.{flag, description, partOutcome, partTable, Describes, Grows, PartMeaning, too-long, bad-edition, outside, too-few, described}
 use Rattle.periods.proofs.Claims.{smallest-period-unique, prefix-periods-length, prefix-periods-at, repetition-sound, repetition-complete}
@@ -37,8 +37,8 @@ description-determined k s u t r b D = rw (
   sym block,
 ) refl
   where
-    block : b ≡ flag (repetition? anyPeriod k s)
-    block = flag-is b (repetition? anyPeriod k s) (D .flagged) (λ e. repetition-complete anyPeriod k s (D .is-block .0 e)) (λ p. D .is-block .1 (repetition-sound anyPeriod k s p))
+    block : b ≡ flag (repetition? heldPeriod k s)
+    block = flag-is b (repetition? heldPeriod k s) (D .flagged) (λ e. repetition-complete heldPeriod k s (D .is-block .0 e)) (λ p. D .is-block .1 (repetition-sound heldPeriod k s p))
 
 -- a table that grows with the prefixes is the one that the smallest periods were written to
 grows-determined : (s t x : List ℕ) (u : ℕ) → Grows s t x u → length s ≤ length t → x ≡ unitsTable s t

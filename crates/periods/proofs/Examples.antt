@@ -1,17 +1,17 @@
 -- The documents' examples of the definitions that the contracts of this crate cite, computed. Assumes nothing.
 use mathlib.Core.Path.{_≡_, refl, ap, _∙_}
 use mathlib.Core.Bool.{true, false}
-use mathlib.Core.List.{List, [], _∷_, _++_, map}
+use mathlib.Core.List.{List, [], _∷_, map}
 use Prim.Native.Nat.{ℕ, zero, suc}
 use native.Mathlib.Omega.{arith}
 use lib.ListN.{length, replicate, length-append}
 use Rattle.answers.specs.Outcome.{accepted, refused}
-use Rattle.periods.specs.Period.{smallestPeriod, repetition?, prefixPeriods, anyPeriod, unitsTable}
+use Rattle.periods.specs.Period.{smallestPeriod, repetition?, prefixPeriods, unitMemory, heldPeriod, unitsTable}
 use Rattle.periods.specs.Square.{twice, power, Primitive, square?}
 use Rattle.periods.specs.Edition.{badEdition?, turnsOf}
 use Rattle.periods.specs.Part.{partOutcome, partTable, description}
 use Rattle.periods.proofs.Squares.{power-empty}
-use Rattle.periods.proofs.Words.{word-a, word-aa, word-aaa, word-aaaa, word-aaaaa, word-aabaabaa, word-ab, word-ababa, word-empty}
+use Rattle.periods.proofs.Words.{one-and, word-a, word-aa, word-aaa, word-aaaa, word-aaaaa, word-aabaabaa, word-ab, word-ababa, word-empty}
 
 -- "ababa * | 5 (unit 2, turns 2, rest 1)"
 pub part-of-ababa : partOutcome word-ababa 1 1 5 5 ≡ accepted (2 ∷ 2 ∷ 1 ∷ 1 ∷ [])
@@ -88,21 +88,34 @@ unfolding smallestPeriod
 smallest-of-aaaa = refl
 
 -- a block of exactly two turns is one, and three turns are more than it has
-pub twice-is-a-block : repetition? anyPeriod 2 (97 ∷ 98 ∷ 97 ∷ 98 ∷ []) ≡ true
+pub twice-is-a-block : repetition? heldPeriod 2 (97 ∷ 98 ∷ 97 ∷ 98 ∷ []) ≡ true
 unfolding repetition? smallestPeriod
 twice-is-a-block = refl
 
-pub twice-is-not-thrice : repetition? anyPeriod 3 (97 ∷ 98 ∷ 97 ∷ 98 ∷ []) ≡ false
+pub twice-is-not-thrice : repetition? heldPeriod 3 (97 ∷ 98 ∷ 97 ∷ 98 ∷ []) ≡ false
 unfolding repetition? smallestPeriod
 twice-is-not-thrice = refl
 
--- "A unit may be of any length": one pass of code 1 and 256 of code 0, all wound twice
-abbrev long-unit : List ℕ
-long-unit = 1 ∷ replicate 256 0
+-- "unit memory holds 256 passes": "a block's unit ... must be 256 or less"
+pub memory-is-256 : unitMemory ≡ 256
+memory-is-256 = refl
 
-pub unit-of-257 : repetition? anyPeriod 2 (long-unit ++ long-unit) ≡ true
-unfolding repetition? smallestPeriod
+pub held-periods : map heldPeriod (1 ∷ 255 ∷ 256 ∷ 257 ∷ 4096 ∷ []) ≡ true ∷ true ∷ true ∷ false ∷ false ∷ []
+held-periods = refl
+
+-- "One pass of code 1 and 256 of code 0, all wound twice, was a block of unit 257 in edition 1 and is one no longer"; with 255 of code 0 it is one
+pub unit-of-257 : partOutcome (power 2 (one-and 256)) 1 1 514 514 ≡ accepted (257 ∷ 2 ∷ 0 ∷ 0 ∷ [])
+unfolding partOutcome description repetition? smallestPeriod badEdition? turnsOf
 unit-of-257 = refl
+
+pub unit-of-256 : partOutcome (power 2 (one-and 255)) 1 1 512 512 ≡ accepted (256 ∷ 2 ∷ 0 ∷ 1 ∷ [])
+unfolding partOutcome description repetition? smallestPeriod badEdition? turnsOf
+unit-of-256 = refl
+
+-- a square keeps any length
+pub square-of-257 : square? (power 2 (one-and 256)) ≡ true
+unfolding square?
+square-of-257 = refl
 
 -- "writes the unit of every leading part of that part but the empty one, one place for each length from 1": the other places stay
 pub units-of-aabaabaa : partTable word-aabaabaa 1 1 8 (replicate 9 7) ≡ 1 ∷ 1 ∷ 3 ∷ 3 ∷ 3 ∷ 3 ∷ 3 ∷ 3 ∷ 7 ∷ []

@@ -80,6 +80,15 @@ part-cut w u v a c b h k l long e =
       sym (drop-at (part w a c) (part w c b) (c - a) n) ∙ ap (drop (c - a)) q ∙ drop-at u v (c - a) long,
     )
 
+pub part-period-in : (w : List ℕ) (a b p : ℕ) → b ≤ length w → Period (part w a b) p → PeriodIn (symbol w) a b p
+part-period-in w a b p h Q =
+    let P = placed-part w a b h in
+    subst (λ (e : ℕ). PeriodIn (symbol w) a e p) (omega (arith, P .long, Q .positive, Q .fits)) (period-in (symbol w) a (b - a) (part w a b) P p Q)
+
+pub part-period-out : (w : List ℕ) (a b p : ℕ) → b ≤ length w → PeriodIn (symbol w) a b p → Period (part w a b) p
+part-period-out w a b p h Q =
+    period-out (symbol w) a (b - a) (part w a b) (placed-part w a b h) p (subst (λ (e : ℕ). PeriodIn (symbol w) a e p) (omega (arith, Q .positive, Q .fits)) Q)
+
 pub part-smallest-in : (w : List ℕ) (a b p : ℕ) → b ≤ length w → SmallestPeriod (part w a b) p → SmallestIn (symbol w) a b p
 part-smallest-in w a b p h S =
     let P = placed-part w a b h in

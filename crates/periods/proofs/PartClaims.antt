@@ -1,33 +1,28 @@
 -- What the part call answers and writes means what the documents say, for every word, edition, first, last and table: `part-means`. One law for each outcome
 -- gives both from the tests that lead to it. Answers are told apart by their numbers. By the order of the tests in the definitions. Assumes nothing.
 use mathlib.Core.Path.{_≡_, refl, sym, ap, _∙_, subst}
-use mathlib.Core.Bool.{Bool, true, false, _||_, and-true, or-true}
+use mathlib.Core.Bool.{Bool, true, false, _||_, or-true}
 use mathlib.Core.List.{List, [], _∷_}
-use Prim.Native.Nat.{ℕ, suc, _+_, _-_, _*_, _/_, _%_, _≤_, _<_}
+use Prim.Native.Nat.{ℕ, suc, _+_, _-_, _/_, _%_, _≤_, _<_}
 use native.Mathlib.Omega.{arith}
 use native.Mathlib.Decide.{decLt, decLe}
 use native.Mathlib.Nat.{div-add-mod', mod-lt}
 use borrow.Author.Tests.{lt-ltb, le-ltb}
-use lib.Dec.{T, leb, ltb}
+use lib.Dec.{T, ltb}
 use lib.ListN.{length, getD, take, length-take}
 use Rattle.answers.specs.Outcome.{Outcome, accepted, refused, refusal, limit}
 use Rattle.answers.proofs.Claims.{refused-accepted, refusal-injective}
 use Rattle.periods.specs.declared.PartAnswer.{PartAnswer}
 use Rattle.periods.specs.declared.PartAnswer.the-variants.{Described, Refused}
-use Rattle.periods.specs.Period.{part, SmallestPeriod, smallestPeriod, repetition?, anyPeriod, unitsTable}
+use Rattle.periods.specs.Period.{part, SmallestPeriod, smallestPeriod, repetition?, heldPeriod, blockOf?, unitsTable}
 use Rattle.periods.specs.Edition.{Edition, turnsOf}
 use Rattle.periods.specs.Part.{flag, partView, description, partOutcome, partTable, Within, Describes, Grows, PartMeaning, too-long, bad-edition, outside, too-few, described}
 use Rattle.periods.proofs.InPlace.{placed-part}
-use Rattle.periods.proofs.Claims.{smallest-period-is, repetition-sound, repetition-complete}
+use Rattle.periods.proofs.Claims.{smallest-period-is, repetition-by-unit, repetition-sound, repetition-complete}
 use Rattle.periods.proofs.UnitsTable.{units-length, units-at, units-last, units-rest}
 use Rattle.periods.proofs.Editions.{test-of-edition, test-of-no-edition, edition?}
 
 -- ---- the description
-
--- where every period is allowed, a word is a repetition if it is long enough
-pub repetition-any : (k : ℕ) (s : List ℕ) → 0 < length s → repetition? anyPeriod k s ≡ leb (k * smallestPeriod s) (length s)
-unfolding repetition?
-repetition-any k s h = rw (lt-ltb 0 (length s) h) (and-true (leb (k * smallestPeriod s) (length s)))
 
 flag-le : (b : Bool) → flag b ≤ 1
 flag-le true = omega arith
@@ -41,24 +36,25 @@ true-flag : (b : Bool) → T b → flag b ≡ 1
 true-flag true t = refl
 true-flag false t = absurd t
 
-pub describes : (k : ℕ) (s : List ℕ) → 0 < length s → Describes k s (smallestPeriod s) (length s / smallestPeriod s) (length s % smallestPeriod s) (flag (repetition? anyPeriod k s))
+pub describes : (k : ℕ) (s : List ℕ) → 0 < length s → Describes k s (smallestPeriod s) (length s / smallestPeriod s) (length s % smallestPeriod s) (flag (repetition? heldPeriod k s))
 describes k s h =
     let S = smallest-period-is s h in
     record {
       smallest = S;
       divided = div-add-mod' (length s) (smallestPeriod s);
       short = mod-lt (length s) (S .period .positive);
-      flagged = flag-le (repetition? anyPeriod k s);
+      flagged = flag-le (repetition? heldPeriod k s);
       is-block = (
-        λ e. repetition-sound anyPeriod k s (flag-true (repetition? anyPeriod k s) e),
-        λ R. true-flag (repetition? anyPeriod k s) (repetition-complete anyPeriod k s R),
+        λ e. repetition-sound heldPeriod k s (flag-true (repetition? heldPeriod k s) e),
+        λ R. true-flag (repetition? heldPeriod k s) (repetition-complete heldPeriod k s R),
       );
     }
 
--- a description from the unit and the length
-pub described-by : (k : ℕ) (s : List ℕ) (u n : ℕ) → 0 < n → n ≡ length s → u ≡ smallestPeriod s → _≡_ {A = List ℕ} (u ∷ n / u ∷ n % u ∷ flag (leb (k * u) n) ∷ []) (description k s)
+-- a description from the unit, the length and the test of both
+pub described-by : (k : ℕ) (s : List ℕ) (u n : ℕ) (b : Bool) → 0 < n → n ≡ length s → u ≡ smallestPeriod s → b ≡ blockOf? k n u
+    → _≡_ {A = List ℕ} (u ∷ n / u ∷ n % u ∷ flag b ∷ []) (description k s)
 unfolding description
-described-by k s u n h e f = rw (f, e, repetition-any k s (subst (λ (x : ℕ). 0 < x) e h))
+described-by k s u n b h e f g = rw (g, f, e, repetition-by-unit heldPeriod k s (subst (λ (x : ℕ). 0 < x) e h))
 
 pub part-length : (w : List ℕ) (first last : ℕ) → Within w first last → length (part w (first - 1) last) ≡ last - (first - 1)
 part-length w first last h = placed-part w (first - 1) last (h .2) .long
@@ -137,7 +133,7 @@ module _ (w : List ℕ) (edition first last : ℕ) (t : List ℕ) where
           let s = part w (first - 1) last in
           let n : length s ≡ last - first + 1 = part-length w first last k ∙ omega (arith, k) in
           let g = part-described h e k (omega arith) in
-          described h e k (omega arith) (smallestPeriod s) (length s / smallestPeriod s) (length s % smallestPeriod s) (flag (repetition? anyPeriod (turnsOf edition) s))
+          described h e k (omega arith) (smallestPeriod s) (length s / smallestPeriod s) (length s % smallestPeriod s) (flag (repetition? heldPeriod (turnsOf edition) s))
           (describes (turnsOf edition) s (omega arith)) (sym (g .0)) (subst (λ (x : List ℕ). Grows s t x (smallestPeriod s)) (g .1) (grows s t (omega arith) (omega arith)))
 
       out : length w ≤ limit → Edition edition → (Within w first last → ⊥) → Means

@@ -35,9 +35,8 @@ unfolding unitsTable prefixPeriods
 units-none [] t e = refl
 units-none (x ∷ s) t e = absurd (omega arith)
 
--- of what follows boundary a, the place of the part up to boundary b
-pub units-of-part : (w t : List ℕ) (a b : ℕ) → a < b → b ≤ length w → getD (unitsTable (part w a (length w)) t) (b - a - 1) 0 ≡ smallestPeriod (part w a b)
-units-of-part w t a b h k =
-    let e : suc (b - a - 1) ≡ b - a = omega arith in
-    units-at (part w a (length w)) t (b - a - 1) (omega (arith, placed-part w a (length w) (omega arith) .long))
-    ∙ rw e (ap smallestPeriod (part-prefix w a b k))
+-- of the part between boundaries a and e, the place of the part up to boundary b
+pub units-of-part : (w t : List ℕ) (a b e : ℕ) → a < b → b ≤ e → e ≤ length w → getD (unitsTable (part w a e) t) (b - a - 1) 0 ≡ smallestPeriod (part w a b)
+units-of-part w t a b e h k l =
+    let f : suc (b - a - 1) ≡ b - a = omega arith in
+    units-at (part w a e) t (b - a - 1) (omega (arith, placed-part w a e l .long)) ∙ rw f (ap smallestPeriod (part-prefix w a b e k))

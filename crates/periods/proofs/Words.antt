@@ -1,6 +1,7 @@
 -- The sequences that the examples of the documents speak of, as words.
 use mathlib.Core.List.{List, [], _∷_}
 use Prim.Native.Nat.{ℕ}
+use lib.ListN.{replicate}
 
 abbrev pub word-empty : List ℕ
 word-empty = []
@@ -49,3 +50,7 @@ word-aabaabaacbbcbbcbb = 97 ∷ 97 ∷ 98 ∷ 97 ∷ 97 ∷ 98 ∷ 97 ∷ 97 ∷
 
 abbrev pub word-abaababaabbbaabbbb : List ℕ
 word-abaababaabbbaabbbb = 97 ∷ 98 ∷ 97 ∷ 97 ∷ 98 ∷ 97 ∷ 98 ∷ 97 ∷ 97 ∷ 98 ∷ 98 ∷ 98 ∷ 97 ∷ 97 ∷ 98 ∷ 98 ∷ 98 ∷ 98 ∷ []
+
+-- "One pass of code 1 and 256 of code 0": the same with so many of code 0
+abbrev pub one-and : ℕ → List ℕ
+one-and zeros = 1 ∷ replicate zeros 0

@@ -11,7 +11,7 @@ use Rattle.answers.specs.declared.Refusal.the-variants.{TooLong, BadPosition, T
 use Rattle.answers.specs.Outcome.{Outcome, accepted, refused, refusal, limit}
 use Rattle.periods.specs.declared.PartAnswer.{PartAnswer}
 use Rattle.periods.specs.declared.PartAnswer.the-variants.{Described, Refused}
-use Rattle.periods.specs.Period.{part, SmallestPeriod, Repetition, smallestPeriod, repetition?, anyPeriod, unitsTable}
+use Rattle.periods.specs.Period.{part, SmallestPeriod, Repetition, smallestPeriod, repetition?, heldPeriod, unitsTable}
 use Rattle.periods.specs.Edition.{Edition, badEdition?, turnsOf}
 
 -- block or not, as a number
@@ -23,10 +23,10 @@ abbrev pub partView : PartAnswer → Outcome
 partView (Described d) = accepted (d .period ∷ d .exponent ∷ d .remainder ∷ flag (d .repetition) ∷ [])
 partView (Refused r) = refusal r
 
--- "Turns = length divided by unit, rounded down; rest = the remainder." Only block or not depends on the turn number k.
+-- "Turns = length divided by unit, rounded down; rest = the remainder." Only block or not depends on the turn number k, and on what unit memory holds.
 unfoldable pub description : ℕ → List ℕ → List ℕ
 description k s =
-    smallestPeriod s ∷ length s / smallestPeriod s ∷ length s % smallestPeriod s ∷ flag (repetition? anyPeriod k s) ∷ []
+    smallestPeriod s ∷ length s / smallestPeriod s ∷ length s % smallestPeriod s ∷ flag (repetition? heldPeriod k s) ∷ []
 
 -- "1: n above 4,096." "12, an edition other than 1 or 2" "6: first below 1, last above n or first above last" "7: fewer output places ... than the answer
 -- needs", which are one for each length from 1 to last − first + 1. One of these is met, or the part is described; so many places are lent.
@@ -58,7 +58,7 @@ pub record Describes (k : ℕ) (s : List ℕ) (period exponent remainder block :
   pub divided : exponent * period + remainder ≡ length s
   pub short : remainder < period
   pub flagged : block ≤ 1
-  pub is-block : (block ≡ 1) ↔ Repetition anyPeriod k s
+  pub is-block : (block ≡ 1) ↔ Repetition heldPeriod k s
 
 -- each place is the unit of that leading part as a word of its own, and the unit answered, u, "is the last of them"; t and x are the table at entry and
 -- at exit

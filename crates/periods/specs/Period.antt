@@ -1,5 +1,5 @@
 -- Periods and repetitions of a word, which is the list of its symbols (passes). Definitions only; proofs/ shows that the computed ones agree with the others.
-use mathlib.Core.Bool.{Bool, true, _&&_}
+use mathlib.Core.Bool.{Bool, true, cond, _&&_}
 use mathlib.Core.List.{List, [], _∷_, _++_}
 use Prim.Native.Nat.{ℕ, zero, suc, _+_, _-_, _*_, _≤_, _<_}
 use mathlib.Core.Path.{_≡_}
@@ -28,9 +28,21 @@ pub record Repetition (allowed : ℕ → Bool) (k : ℕ) (s : List ℕ) : Type 0
   pub long : k * period ≤ length s
   pub permitted : T (allowed period)
 
--- "A unit may be of any length."
+-- "Square blocks keep any length", and so do the units of runs: "a run with a longer unit stays in the list"
 abbrev pub anyPeriod : ℕ → Bool
 anyPeriod p = true
+
+-- the periods of at most so many symbols
+abbrev pub upTo : ℕ → ℕ → Bool
+upTo most p = leb p most
+
+-- "unit memory holds 256 passes"
+abbrev pub unitMemory : ℕ
+unitMemory = 256
+
+-- "A block's unit is then its smallest period and must be 256 or less, in both editions"
+abbrev pub heldPeriod : ℕ → Bool
+heldPeriod = upTo unitMemory
 
 -- ---- the same, computed
 
@@ -56,6 +68,14 @@ smallestPeriod (x ∷ xs) = seek (agrees (x ∷ xs)) (length xs) 1
 -- whether a word is a repetition (block)
 unfoldable pub repetition? : (ℕ → Bool) → ℕ → List ℕ → Bool
 repetition? allowed k s = ltb 0 (length s) && (leb (k * smallestPeriod s) (length s) && allowed (smallestPeriod s))
+
+-- whether a part of this length with this unit is a block of k turns
+abbrev pub blockOf? : ℕ → ℕ → ℕ → Bool
+blockOf? k len u = leb (k * u) len && heldPeriod u
+
+-- the unit of a block of k turns, 0 for a word that is none
+unfoldable pub blockUnit : ℕ → List ℕ → ℕ
+blockUnit k s = cond (repetition? heldPeriod k s) (smallestPeriod s) 0
 
 -- the smallest periods of the prefixes of lengths 1 to m, in this order
 unfoldable pub prefixPeriods : List ℕ → ℕ → List ℕ

@@ -2,7 +2,9 @@
 ghost use mathlib.Core.Path.{_≡_};
 ghost use Prim.Native.Nat.{_≤_, _<_, _^_};
 ghost use lib.ListN.{length};
-ghost use Rattle.periods.specs.Period.{smallestPeriod, unitsTable};
+ghost use Rattle.periods.specs.Period.{smallestPeriod, unitsTable, blockOf?, blockUnit};
+ghost use Rattle.periods.specs.Edition.{Turns};
+use super::UNIT_MEMORY;
 
 // The unit of the part that is lent, 0 for an empty one; writes the unit of every non-empty prefix,
 // one place for each length from 1; the places after these stay. Both loops together take at most
@@ -37,6 +39,42 @@ pub fn units(part: &[u8], table: &mut [u32]) -> usize
             table[m] = p as u32;
             m += 1;
             continue 'outer;
+        }
+        break p;
+    }
+}
+
+// Whether a part of this length with this unit is a repetition (block) of so many turns.
+pub fn is_block_of(turns: usize, len: usize, unit: usize) -> bool
+    requires { ⌜ Turns turns ⌝ }
+    ensures { λ r. ⌜ r ≡ blockOf? turns len unit ⌝ }
+{
+    if UNIT_MEMORY < unit {
+        return false;
+    }
+    turns * unit <= len
+}
+
+// The unit of the part that is lent if it is a repetition (block) of so many turns, else 0. It needs no
+// table, for callers that have none to lend; units is linear. No unit is tried that memory does not
+// hold or the part does not have so often: at most UNIT_MEMORY × length comparisons; no stack.
+pub fn block_unit(part: &[u8], turns: usize) -> usize
+    requires { ⌜ Turns turns ⌝ }
+    ensures { λ r. ⌜ r ≡ blockUnit turns (now (part .entry)) ⌝ }
+{
+    let n = part.len();
+    let mut p: usize = 0;
+    'outer: loop {
+        p += 1;
+        if !is_block_of(turns, n, p) {
+            break 0;
+        }
+        let mut i: usize = 0;
+        while i < n - p {
+            if part[i] != part[i + p] {
+                continue 'outer;
+            }
+            i += 1;
         }
         break p;
     }

@@ -1,7 +1,6 @@
 // Parts of a word, their periods, squares, the editions, and the part call.
 ghost use mathlib.Core.Path.{_≡_};
 ghost use lib.ListN.{length};
-ghost use Rattle.periods.specs.Period.{smallestPeriod};
 ghost use Rattle.periods.specs.Square.{square?};
 ghost use Rattle.periods.specs.Edition.{badEdition?, turnsOf};
 ghost use Rattle.periods.specs.Part.{partView, partOutcome, partTable, PartMeaning};
@@ -21,6 +20,9 @@ pub const FIRST_TURNS: usize = 2;
 
 // The same of edition 2.
 pub const SECOND_TURNS: usize = 3;
+
+// The longest unit of a repetition (block), in both editions: what unit memory holds.
+pub const UNIT_MEMORY: usize = 256;
 
 // How often the half of a square stands in it.
 pub const TWICE: usize = 2;
@@ -56,30 +58,6 @@ pub fn turns(edition: u32) -> usize
         return FIRST_TURNS;
     }
     SECOND_TURNS
-}
-
-// The unit of the part that is lent; 0 for an empty one. It needs no table, for callers that have
-// none to lend; inner::units is linear. Time: the product of the part's length and its unit at
-// most; no stack.
-pub fn smallest_period(part: &[u8]) -> usize
-    ensures { λ r. ⌜ r ≡ smallestPeriod (now (part .entry)) ⌝ }
-{
-    let n = part.len();
-    if n == 0 {
-        return 0;
-    }
-    let mut p: usize = 0;
-    'outer: loop {
-        p += 1;
-        let mut i: usize = 0;
-        while i < n - p {
-            if part[i] != part[i + p] {
-                continue 'outer;
-            }
-            i += 1;
-        }
-        break p;
-    }
 }
 
 // Whether the part that is lent is a square: a non-empty word twice over. Time linear in the part's
@@ -143,6 +121,6 @@ pub fn part(w: &[u8], edition: u32, first: u32, last: u32, units: &mut [u32]) ->
         period: unit as u32,
         exponent: (len / unit) as u32,
         remainder: (len % unit) as u32,
-        repetition: turns * unit <= len,
+        repetition: inner::is_block_of(turns, len, unit),
     })
 }

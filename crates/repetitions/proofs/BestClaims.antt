@@ -2,6 +2,7 @@
 -- best split says holds for them (factorizer/proofs/BestClaims.antt); here are the refusals 1 and 12. Assumes nothing.
 use mathlib.Core.Path.{_≡_, refl, sym, _∙_}
 use mathlib.Core.Logic.{_≢_}
+use mathlib.Core.Bool.{Bool}
 use mathlib.Core.List.{List}
 use Prim.Native.Nat.{ℕ, _/_, _≤_, _<_}
 use native.Mathlib.Omega.{arith}
@@ -10,7 +11,7 @@ use borrow.Author.Tests.{lt-ltb, le-ltb}
 use lib.ListN.{length, take}
 use Rattle.answers.specs.Outcome.{Outcome, refused, limit}
 use Rattle.answers.proofs.Claims.{refused-number}
-use Rattle.periods.specs.Period.{Repetition, repetition?, anyPeriod}
+use Rattle.periods.specs.Period.{Repetition, repetition?, heldPeriod}
 use Rattle.periods.specs.Edition.{Edition, turnsOf}
 use Rattle.periods.proofs.Editions.{test-of-edition, test-of-no-edition, edition?}
 use Rattle.factors.specs.Factorization.{Choice, cell, bestEnds}
@@ -23,18 +24,19 @@ use Rattle.repetitions.specs.Block.{Block, block?}
 use Rattle.repetitions.proofs.Blocks.{edition-half}
 use Rattle.repetitions.specs.BestSplit.{told, bestOutcome, bestEndsTable, bestWork, BestMeaning, too-long, bad-edition, chosen}
 
--- CLAIM: the theorem of factors, for repetitions of any turn number
-pub word-answers : (k : ℕ) (c : Choice) (w : List ℕ) (m : ℕ) → Answers c (Block anyPeriod k w) m (cell c (block? anyPeriod k w) m) (bestEnds c (block? anyPeriod k w) m)
-word-answers k c w m = piece-answers (Repetition anyPeriod k) (repetition? anyPeriod k) (repetition-decides anyPeriod k) c w m
+-- CLAIM: the theorem of factors, for repetitions of any turn number and any allowed periods
+pub word-answers : (allowed : ℕ → Bool) (k : ℕ) (c : Choice) (w : List ℕ) (m : ℕ)
+    → Answers c (Block allowed k w) m (cell c (block? allowed k w) m) (bestEnds c (block? allowed k w) m)
+word-answers allowed k c w m = piece-answers (Repetition allowed k) (repetition? allowed k) (repetition-decides allowed k) c w m
 
 -- CLAIM: the instances for the blocks of an edition, at every prefix length. turnsOf 1 is 2 and turnsOf 2 is 3; they hold for any other number too, of which
 -- no call makes use
 module _ (edition : ℕ) (c : Choice) (w : List ℕ) (m : ℕ) where
-  pub edition-answers : Answers c (Block anyPeriod (turnsOf edition) w) m (cell c (block? anyPeriod (turnsOf edition) w) m) (bestEnds c (block? anyPeriod (turnsOf edition) w) m)
-  edition-answers = word-answers (turnsOf edition) c w m
+  pub edition-answers : Answers c (Block heldPeriod (turnsOf edition) w) m (cell c (block? heldPeriod (turnsOf edition) w) m) (bestEnds c (block? heldPeriod (turnsOf edition) w) m)
+  edition-answers = word-answers heldPeriod (turnsOf edition) c w m
 
-  pub edition-reported : m ≤ length w → length w < none → Reported (Repetition anyPeriod (turnsOf edition)) c (take m w) (sizeIn (cell c (block? anyPeriod (turnsOf edition) w) m))
-  edition-reported = prefix-reported (Repetition anyPeriod (turnsOf edition)) (repetition? anyPeriod (turnsOf edition)) (repetition-decides anyPeriod (turnsOf edition)) c w m
+  pub edition-reported : m ≤ length w → length w < none → Reported (Repetition heldPeriod (turnsOf edition)) c (take m w) (sizeIn (cell c (block? heldPeriod (turnsOf edition) w) m))
+  edition-reported = prefix-reported (Repetition heldPeriod (turnsOf edition)) (repetition? heldPeriod (turnsOf edition)) (repetition-decides heldPeriod (turnsOf edition)) c w m
 
 -- ---- the tests 1 and 12
 
@@ -71,7 +73,7 @@ module _ (w : List ℕ) (edition choice : ℕ) (e t : List ℕ) where
     work = sym (told-bad-edition w edition _ _ _ h i);
   }
 
-  pub promised-chosen : length w ≤ limit → Edition edition → (o : Outcome) (x y : List ℕ) → ChosenGiven (repetition? anyPeriod (turnsOf edition)) w choice e t o x y → Promised o x y
+  pub promised-chosen : length w ≤ limit → Edition edition → (o : Outcome) (x y : List ℕ) → ChosenGiven (repetition? heldPeriod (turnsOf edition)) w choice e t o x y → Promised o x y
   unfolding bestOutcome bestEndsTable bestWork
   promised-chosen h i o x y G = record {
     answer = G .answer ∙ sym (told-fine w edition _ _ _ h i);
@@ -93,7 +95,7 @@ module _ (w : List ℕ) (edition choice : ℕ) (e t : List ℕ) where
       go (no h) (yes i) =
           by (promised-chosen (omega arith) i _ _ _ record { answer = refl; ends = refl; work = refl })
           (chosen (omega arith) i
-          (chosen-means (Repetition anyPeriod (turnsOf edition)) (repetition? anyPeriod (turnsOf edition)) (repetition-decides anyPeriod (turnsOf edition)) w choice e t (omega arith)))
+          (chosen-means (Repetition heldPeriod (turnsOf edition)) (repetition? heldPeriod (turnsOf edition)) (repetition-decides heldPeriod (turnsOf edition)) w choice e t (omega arith)))
 
   -- what the call ensures, from the three promises
   pub best-answered : (o : Outcome) (x y : List ℕ) → Promised o x y
@@ -104,4 +106,4 @@ module _ (w : List ℕ) (edition choice : ℕ) (e t : List ℕ) where
   pub best-suffice : length w / 2 ≤ length e → (o : Outcome) (x y : List ℕ) → BestMeaning w edition choice e t o x y → (i : ℕ) → o ≢ refused 7 i
   best-suffice room o x y (too-long h f a b) i z = omega (arith, refused-number o 1 7 0 i f z)
   best-suffice room o x y (bad-edition h k f a b) i z = omega (arith, refused-number o 12 7 0 i f z)
-  best-suffice room o x y (chosen h k C) i z = chosen-suffice (Repetition anyPeriod (turnsOf edition)) w choice e t (edition-half edition w (length w)) room o x y C i z
+  best-suffice room o x y (chosen h k C) i z = chosen-suffice (Repetition heldPeriod (turnsOf edition)) w choice e t (edition-half edition w (length w)) room o x y C i z

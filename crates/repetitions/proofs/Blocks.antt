@@ -8,7 +8,7 @@ use native.Mathlib.Omega.{arith}
 use native.Mathlib.Nat.{mul-le-mul-right}
 use lib.Dec.{T}
 use lib.ListN.{length}
-use Rattle.periods.specs.Period.{part, smallestPeriod, anyPeriod, Repetition, repetition?}
+use Rattle.periods.specs.Period.{part, smallestPeriod, heldPeriod, Repetition, repetition?}
 use Rattle.periods.specs.Edition.{turnsOf}
 use Rattle.periods.proofs.Editions.{two-turns}
 use Rattle.periods.proofs.InPlace.{SmallestIn, symbol, placed-part, part-smallest-in, part-smallest-out}
@@ -76,8 +76,8 @@ factorization-fewer-turns : (allowed : ℕ → Bool) (m k : ℕ) (w : List ℕ) 
 factorization-fewer-turns allowed m k w n es h = chain-map (Block allowed k w) (Block allowed m w) (λ i j. block-fewer-turns allowed m k w i j h) 0 es n
 
 -- an edition's blocks have two turns at least
-pub edition-two-turns : (edition : ℕ) (w : List ℕ) (n : ℕ) (es : List ℕ) → Factorization (Block anyPeriod (turnsOf edition) w) n es → Factorization (Block anyPeriod 2 w) n es
-edition-two-turns edition w n es = factorization-fewer-turns anyPeriod 2 (turnsOf edition) w n es (two-turns edition)
+pub edition-two-turns : (edition : ℕ) (w : List ℕ) (n : ℕ) (es : List ℕ) → Factorization (Block heldPeriod (turnsOf edition) w) n es → Factorization (Block heldPeriod 2 w) n es
+edition-two-turns edition w n es = factorization-fewer-turns heldPeriod 2 (turnsOf edition) w n es (two-turns edition)
 
 -- ---- the number of blocks
 
@@ -88,5 +88,5 @@ blocks-half allowed k w two = size-half (Block allowed k w) long
     long : (a b : ℕ) → Block allowed k w a b → a + 2 ≤ b
     long a b K = omega (arith, mul-le-mul-right (K .1 .period) two, block-long allowed k w a b K, K .1 .smallest .period .positive)
 
-pub edition-half : (edition : ℕ) (w : List ℕ) (m : ℕ) (es : List ℕ) → Factorization (Block anyPeriod (turnsOf edition) w) m es → size es ≤ m / 2
-edition-half edition w = blocks-half anyPeriod (turnsOf edition) w (two-turns edition)
+pub edition-half : (edition : ℕ) (w : List ℕ) (m : ℕ) (es : List ℕ) → Factorization (Block heldPeriod (turnsOf edition) w) m es → size es ≤ m / 2
+edition-half edition w = blocks-half heldPeriod (turnsOf edition) w (two-turns edition)

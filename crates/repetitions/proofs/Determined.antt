@@ -5,7 +5,7 @@ use mathlib.Core.List.{List}
 use Prim.Native.Nat.{ℕ}
 use native.Mathlib.Omega.{arith}
 use Rattle.answers.specs.Outcome.{Outcome}
-use Rattle.periods.specs.Period.{Repetition, repetition?, anyPeriod}
+use Rattle.periods.specs.Period.{Repetition, repetition?, heldPeriod}
 use Rattle.periods.specs.Edition.{turnsOf}
 use Rattle.factorizer.proofs.Rules.{repetition-decides}
 use Rattle.factorizer.proofs.JudgeClaims.{judged-determined}
@@ -30,7 +30,7 @@ best-determined w edition choice e t o x y M = go M
     go (split.BestMeaning.bad-edition h i a b d) = by a b d (promised-bad-edition w edition choice e t h i)
     go (split.BestMeaning.chosen h i C) =
         let k = turnsOf edition in
-        let P = promised-chosen w edition choice e t h i o x y (chosen-determined (Repetition anyPeriod k) (repetition? anyPeriod k) (repetition-decides anyPeriod k) w choice e t (omega arith) o x y C) in
+        let P = promised-chosen w edition choice e t h i o x y (chosen-determined (Repetition heldPeriod k) (repetition? heldPeriod k) (repetition-decides heldPeriod k) w choice e t (omega arith) o x y C) in
         (P .answer, P .ends, P .work)
 
 -- CLAIM: the meaning of judge a split determines the answer
@@ -39,4 +39,4 @@ split-determined w edition ends o (judge.SplitMeaning.too-long h e) = e ∙ spli
 split-determined w edition ends o (judge.SplitMeaning.bad-edition h i e) = e ∙ split-bad-edition w edition ends h i
 split-determined w edition ends o (judge.SplitMeaning.judged h i J) =
     let k = turnsOf edition in
-    judged-determined (Repetition anyPeriod k) (repetition? anyPeriod k) (repetition-decides anyPeriod k) w ends o J ∙ split-judged w edition ends h i
+    judged-determined (Repetition heldPeriod k) (repetition? heldPeriod k) (repetition-decides heldPeriod k) w ends o J ∙ split-judged w edition ends h i

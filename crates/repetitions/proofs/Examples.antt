@@ -1,15 +1,17 @@
 -- The documents' examples of the definitions that the contracts of this crate cite, computed: the starred sequences in both editions as one table each with
--- one claim, the two longest sequences of letters, the tie rule, and the judged splits. Assumes nothing.
-use mathlib.Core.Path.{_≡_, refl}
+-- one claim, the two longest sequences of letters, the tie rule, the judged splits, and what unit memory holds. Assumes nothing.
+use mathlib.Core.Path.{_≡_, refl, ap, _∙_}
 use mathlib.Core.Logic.{inl, inr}
 use mathlib.Core.Bool.{true, false}
 use mathlib.Core.List.{List, [], _∷_, _++_}
-use Prim.Native.Nat.{ℕ}
+use Prim.Native.Nat.{ℕ, zero, suc, _+_, _≤_}
 use native.Mathlib.Omega.{arith}
-use lib.Dec.{T}
-use lib.ListN.{replicate}
+use native.Mathlib.Nat.{zero-add}
+use lib.Dec.{T, leb→le}
+use lib.ListN.{getD, replicate, List·getD-append, getD-replicate}
 use Rattle.answers.specs.Outcome.{Outcome, accepted, refused}
-use Rattle.periods.specs.Period.{smallestPeriod, repetition?, anyPeriod}
+use Rattle.periods.specs.Period.{smallestPeriod, repetition?, unitMemory, heldPeriod}
+use Rattle.periods.specs.Square.{power}
 use Rattle.periods.specs.Edition.{badEdition?, turnsOf}
 use Rattle.factors.specs.Factorization.{LongerFromEnd, cell, bestEnds}
 use Rattle.factors.specs.Table.{none, sizes}
@@ -17,9 +19,10 @@ use Rattle.factors.specs.Verdict.{verdict}
 use Rattle.factorizer.specs.Best.{chosenOutcome, chosenEnds, chosenWork}
 use Rattle.factorizer.proofs.Cases.{lentEnds, lentWork, Case, all}
 use Rattle.repetitions.specs.Block.{block?}
-use Rattle.repetitions.specs.BestSplit.{bestOutcome, bestEndsTable, bestWork}
+use Rattle.repetitions.specs.BestSplit.{bestOutcome, bestEndsTable, bestWork, Unsplittable}
 use Rattle.repetitions.specs.Judge.{splitOutcome}
-use Rattle.periods.proofs.Words.{word-a, word-aa, word-aaa, word-aaaa, word-aaaaa, word-aaaaaa, word-aabaabaa, word-aabaabaacbbcbbcbb, word-aabb, word-ab, word-abaabaababaabaabababa, word-ababa, word-baa, word-empty}
+use Rattle.repetitions.proofs.Blocks.{block-in}
+use Rattle.periods.proofs.Words.{one-and, word-a, word-aa, word-aaa, word-aaaa, word-aaaaa, word-aaaaaa, word-aabaabaa, word-aabaabaacbbcbbcbb, word-aabb, word-ab, word-abaabaababaabaabababa, word-ababa, word-baa, word-empty}
 
 -- ---- the starred cases
 
@@ -269,6 +272,40 @@ pub judged-empty : splitOutcome [] 1 [] ≡ accepted (0 ∷ [])
 unfolding splitOutcome verdict badEdition? turnsOf
 judged-empty = refl
 
+-- ---- what unit memory holds
+
+-- "One pass of code 1 and 256 of code 0, all wound twice, was a block of unit 257 in edition 1 and is one no longer"; with 255 of code 0 it is one
+pub judged-unit-257 : splitOutcome (power 2 (one-and 256)) 1 (514 ∷ []) ≡ refused 4 1
+unfolding splitOutcome verdict repetition? smallestPeriod badEdition? turnsOf
+judged-unit-257 = refl
+
+pub judged-unit-256 : splitOutcome (power 2 (one-and 255)) 1 (512 ∷ []) ≡ accepted (1 ∷ [])
+unfolding splitOutcome verdict repetition? smallestPeriod badEdition? turnsOf
+judged-unit-256 = refl
+
+-- "in both editions"
+pub judged-unit-257-in-2 : splitOutcome (power 3 (one-and 256)) 2 (771 ∷ []) ≡ refused 4 1
+unfolding splitOutcome verdict repetition? smallestPeriod badEdition? turnsOf
+judged-unit-257-in-2 = refl
+
+pub judged-unit-256-in-2 : splitOutcome (power 3 (one-and 255)) 2 (768 ∷ []) ≡ accepted (1 ∷ [])
+unfolding splitOutcome verdict repetition? smallestPeriod badEdition? turnsOf
+judged-unit-256-in-2 = refl
+
+-- it has no split at all: the first block would have a unit of at most 256, and so many symbols after its 1 another 1
+pub unit-257-unsplittable : Unsplittable 2 (power 2 (one-and 256))
+unit-257-unsplittable [] F = absurd (omega (arith, F))
+unit-257-unsplittable (e ∷ es) F =
+    let K = block-in heldPeriod 2 (power 2 (one-and 256)) 0 e (F .0) in
+    let P = K .smallest .period in
+    let low = leb→le (K .period) unitMemory (K .permitted) in
+    omega (arith, P .same 0 (omega arith) (omega (arith, K .long, P .positive)), zeros-after (K .period) (P .positive) low)
+  where
+    zeros-after : (p : ℕ) → 1 ≤ p → p ≤ 256 → getD (power 2 (one-and 256)) (0 + p) 0 ≡ 0
+    zeros-after zero a b = absurd (omega arith)
+    zeros-after (suc q) a b =
+        ap (λ (x : ℕ). getD (power 2 (one-and 256)) x 0) (zero-add (suc q)) ∙ List·getD-append (one-and 256) (one-and 256) 0 (suc q) (omega arith) ∙ getD-replicate 256 q 0 0 (omega arith)
+
 -- ---- the tie rule
 
 -- "the last block is longest": of the two splits of aabaabaa into two blocks 2,8 wins, with last blocks of 6 and of 2 passes
@@ -283,15 +320,15 @@ one-before-decides = inr (refl, inl (omega arith))
 
 -- "Taking the longest block each time: abaabaababaabaabababa then starts with 19 passes and is called unsplittable": its longest block at the start has 19,
 -- what is left is none, and there is a split (`fewest-of-001`)
-pub longest-first-is-19 : block? anyPeriod 2 word-abaabaababaabaabababa 0 19 ≡ true
+pub longest-first-is-19 : block? heldPeriod 2 word-abaabaababaabaabababa 0 19 ≡ true
 unfolding repetition? smallestPeriod
 longest-first-is-19 = refl
 
-pub longest-first-not-20 : block? anyPeriod 2 word-abaabaababaabaabababa 0 20 ≡ false
+pub longest-first-not-20 : block? heldPeriod 2 word-abaabaababaabaabababa 0 20 ≡ false
 unfolding repetition? smallestPeriod
 longest-first-not-20 = refl
 
-pub longest-first-not-21 : block? anyPeriod 2 word-abaabaababaabaabababa 0 21 ≡ false
+pub longest-first-not-21 : block? heldPeriod 2 word-abaabaababaabaabababa 0 21 ≡ false
 unfolding repetition? smallestPeriod
 longest-first-not-21 = refl
 

@@ -8,7 +8,7 @@ use native.Mathlib.Decide.{decLt}
 use lib.ListN.{length}
 use Rattle.answers.specs.Outcome.{Outcome, accepted, refused, limit}
 use Rattle.answers.proofs.Claims.{refused-accepted}
-use Rattle.periods.specs.Period.{Repetition, repetition?, anyPeriod}
+use Rattle.periods.specs.Period.{Repetition, repetition?, heldPeriod}
 use Rattle.periods.specs.Edition.{Edition, turnsOf}
 use Rattle.periods.proofs.Editions.{edition?}
 use Rattle.factors.specs.Factorization.{Factorization}
@@ -29,13 +29,13 @@ module _ (w : List ℕ) (edition : ℕ) (ends : List ℕ) where
   unfolding splitOutcome
   split-bad-edition h i = sym (told-bad-edition w edition _ _ _ h i)
 
-  pub split-judged : length w ≤ limit → Edition edition → pieceVerdict (repetition? anyPeriod (turnsOf edition)) w ends ≡ splitOutcome w edition ends
+  pub split-judged : length w ≤ limit → Edition edition → pieceVerdict (repetition? heldPeriod (turnsOf edition)) w ends ≡ splitOutcome w edition ends
   unfolding splitOutcome
   split-judged h i = sym (told-fine w edition _ _ _ h i)
 
   -- what every judge of a split into the edition's blocks says
-  judged-so : Judged (Repetition anyPeriod (turnsOf edition)) w ends (pieceVerdict (repetition? anyPeriod (turnsOf edition)) w ends)
-  judged-so = judged-means (Repetition anyPeriod (turnsOf edition)) (repetition? anyPeriod (turnsOf edition)) (repetition-decides anyPeriod (turnsOf edition)) w ends
+  judged-so : Judged (Repetition heldPeriod (turnsOf edition)) w ends (pieceVerdict (repetition? heldPeriod (turnsOf edition)) w ends)
+  judged-so = judged-means (Repetition heldPeriod (turnsOf edition)) (repetition? heldPeriod (turnsOf edition)) (repetition-decides heldPeriod (turnsOf edition)) w ends
 
   -- CLAIM: judge a split says what the documents ask
   pub split-means : SplitMeaning w edition ends (splitOutcome w edition ends)
@@ -44,11 +44,11 @@ module _ (w : List ℕ) (edition : ℕ) (ends : List ℕ) where
       go : Dec (limit < length w) → Dec (Edition edition) → SplitMeaning w edition ends (splitOutcome w edition ends)
       go (yes h) i = too-long h (sym (split-too-long h))
       go (no h) (no i) = bad-edition (omega arith) i (sym (split-bad-edition (omega arith) i))
-      go (no h) (yes i) = judged (omega arith) i (subst (Judged (Repetition anyPeriod (turnsOf edition)) w ends) (split-judged (omega arith) i) judged-so)
+      go (no h) (yes i) = judged (omega arith) i (subst (Judged (Repetition heldPeriod (turnsOf edition)) w ends) (split-judged (omega arith) i) judged-so)
 
   -- what judge a split accepts with values v
   abbrev pub AcceptedSplit : List ℕ → Type 0
-  AcceptedSplit v = (length w ≤ limit) × (v ≡ length ends ∷ []) × Edition edition × Factorization (Block anyPeriod (turnsOf edition) w) (length w) ends
+  AcceptedSplit v = (length w ≤ limit) × (v ≡ length ends ∷ []) × Edition edition × Factorization (Block heldPeriod (turnsOf edition) w) (length w) ends
 
   pub accepted-split : (v : List ℕ) → accepted v ≡ splitOutcome w edition ends → AcceptedSplit v
   accepted-split v e = go split-means
@@ -61,13 +61,13 @@ module _ (w : List ℕ) (edition : ℕ) (ends : List ℕ) where
       go (bad-edition h i f) = absurd (clash 12 0 f)
       go (judged h i J) = by (J .verdict-on)
         where
-          by : VerdictMeaning (λ k. Block anyPeriod (turnsOf edition) w) (length w) ends (splitOutcome w edition ends) → AcceptedSplit v
+          by : VerdictMeaning (λ k. Block heldPeriod (turnsOf edition) w) (length w) ends (splitOutcome w edition ends) → AcceptedSplit v
           by (bad-end k a b d f g) = absurd (clash 3 k g)
           by (no-block k a b d f g x) = absurd (clash 4 k x)
           by (unfinished a b f) = absurd (clash 5 0 f)
           by (fine a b f) = let q : v ≡ length ends ∷ [] = cc in (h, q, i, J .accepts .0 f)
 
-  pub factorization-accepted : length w ≤ limit → Edition edition → Factorization (Block anyPeriod (turnsOf edition) w) (length w) ends → accepted (length ends ∷ []) ≡ splitOutcome w edition ends
+  pub factorization-accepted : length w ≤ limit → Edition edition → Factorization (Block heldPeriod (turnsOf edition) w) (length w) ends → accepted (length ends ∷ []) ≡ splitOutcome w edition ends
   factorization-accepted h i F = sym (judged-so .accepts .1 F) ∙ split-judged h i
 
   pub split-answered : (o : Outcome) → o ≡ splitOutcome w edition ends → (o ≡ splitOutcome w edition ends) × SplitMeaning w edition ends o

@@ -6,7 +6,7 @@ use Prim.Native.Nat.{ℕ}
 use native.Mathlib.Omega.{arith}
 use lib.ListN.{length}
 use lib.Seq.{sets}
-use Rattle.periods.specs.Period.{anyPeriod}
+use Rattle.periods.specs.Period.{heldPeriod}
 use Rattle.runs.proofs.Determined.{lists-unique}
 use Rattle.factors.specs.Factorization.{Choice, smallest, largest, size}
 use Rattle.factors.proofs.Optimal.{best-unique}
@@ -21,7 +21,7 @@ split-printed-unique w c name s r (none-printed n e) (none-printed m f) = e ∙ 
 split-printed-unique w c name s r (none-printed n e) (best-printed fs C f) = absurd (n fs (C .factorization))
 split-printed-unique w c name s r (best-printed es B e) (none-printed m f) = absurd (m es (B .factorization))
 split-printed-unique w c name s r (best-printed es B e) (best-printed fs C f) =
-    e ∙ ap (λ (xs : List ℕ). line name (size xs ∷ []) ++ blockLines w 0 0 xs) (best-unique c (Block anyPeriod printedTurns w) (length w) (size es) (size fs) es fs B C .1) ∙ sym f
+    e ∙ ap (λ (xs : List ℕ). line name (size xs ∷ []) ++ blockLines w 0 0 xs) (best-unique c (Block heldPeriod printedTurns w) (length w) (size es) (size fs) es fs B C .1) ∙ sym f
 
 -- CLAIM: a word has one text
 pub printed-unique : (w s r : List ℕ) → Printed w s → Printed w r → s ≡ r

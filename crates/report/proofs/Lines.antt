@@ -4,12 +4,12 @@ use mathlib.Core.Path.{_≡_, refl, sym, ap, ap₂, _∙_}
 use mathlib.Core.Logic.{_≢_}
 use mathlib.Core.Bool.{Bool, true, false, cond}
 use mathlib.Core.List.{List, [], _∷_, _++_, append-nil, append-assoc}
-use Prim.Native.Nat.{ℕ, zero, suc, _+_, _-_, _*_, _≤_}
+use Prim.Native.Nat.{ℕ, zero, suc, _+_, _*_, _≤_}
 use native.Mathlib.Omega.{arith}
 use native.Mathlib.Nat.{mul-le-mul-right}
 use lib.Dec.{eqb, eqb·suc-zero}
 use lib.ListN.{length, take, length-append, length-take}
-use Rattle.periods.specs.Period.{part, smallestPeriod, anyPeriod}
+use Rattle.periods.specs.Period.{part, smallestPeriod, heldPeriod}
 use Rattle.periods.proofs.Editions.{two-turns}
 use Rattle.periods.proofs.Claims.{smallest-period-unique}
 use Rattle.runs.specs.declared.Record.{Record}
@@ -101,20 +101,20 @@ find-first i j p (r ∷ rs) h = go (find-first i j p rs) (encloses? i j p r) h
     go ih false k = later (firstNumber (encloses? i j p) rs) ih k
 
 -- a block is twice its unit or longer
-block-twice : (w : List ℕ) (i j : ℕ) → Block anyPeriod printedTurns w i j → 2 * smallestPeriod (part w i j) ≤ length (part w i j)
+block-twice : (w : List ℕ) (i j : ℕ) → Block heldPeriod printedTurns w i j → 2 * smallestPeriod (part w i j) ≤ length (part w i j)
 block-twice w i j K = omega (arith, K .1 .long, mul-le-mul-right (K .1 .period) (two-turns printedEdition), smallest-period-unique (part w i j) (K .1 .period) (K .1 .smallest))
 
 -- CLAIM: the first record that encloses a block and has its unit is the block's run
-pub find-is-run-number : (w : List ℕ) (i j : ℕ) → Block anyPeriod printedTurns w i j
+pub find-is-run-number : (w : List ℕ) (i j : ℕ) → Block heldPeriod printedTurns w i j
     → findRun (runsOf w) (i + 1) j (smallestPeriod (part w i j)) + 1 ≡ runNumber w i j
 unfolding runNumber
 find-is-run-number w i j K =
     let l = part-long w i j (K .0) in
-    let u = block-up anyPeriod printedTurns w i j K in
+    let u = block-up heldPeriod printedTurns w i j K in
     find-first i j (smallestPeriod (part w i j)) (runsOf w) (run-numbered w i j (K .0) (omega arith) (block-twice w i j K))
 
 -- the same for what the finder gives over the records that are held
-pub found-is-run-number : (w : List ℕ) (rs : List Record) (count i j unit found : ℕ) → Block anyPeriod printedTurns w i j → take count rs ≡ runsOf w
+pub found-is-run-number : (w : List ℕ) (rs : List Record) (count i j unit found : ℕ) → Block heldPeriod printedTurns w i j → take count rs ≡ runsOf w
     → unit ≡ smallestPeriod (part w i j) → found ≡ findRun (take count rs) (i + 1) j unit → found + 1 ≡ runNumber w i j
 found-is-run-number w rs count i j unit found K h e f =
     ap (λ (n : ℕ). n + 1) (f ∙ ap₂ (λ (l : List Record) (p : ℕ). findRun l (i + 1) j p) h e) ∙ find-is-run-number w i j K

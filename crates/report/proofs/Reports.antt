@@ -9,7 +9,7 @@ use borrow.Author.Tests.{lt-ltb}
 use lib.ListN.{length, take, drop}
 use lib.Seq.{sets, length-sets, take-at}
 use Rattle.laws.proofs.Stores.{sets-front}
-use Rattle.periods.specs.Period.{anyPeriod}
+use Rattle.periods.specs.Period.{heldPeriod}
 use Rattle.runs.specs.Table.{runsOf, stride}
 use Rattle.runs.proofs.Records.{length-records}
 use Rattle.runs.proofs.Listed.{runs-listed}
@@ -55,9 +55,9 @@ text-fits w = go (decLt programLimit (length w))
 
 split-printed : (w : List ℕ) (choice : ℕ) (name : List ℕ) → SplitPrinted w (choiceOf choice) name (splitText w choice name)
 unfolding splitText
-split-printed w choice name = go (lastCell printedTurns w choice) (word-answers printedTurns (choiceOf choice) w (length w))
+split-printed w choice name = go (lastCell printedTurns w choice) (word-answers heldPeriod printedTurns (choiceOf choice) w (length w))
   where
-    go : (v : Cell) → Answers (choiceOf choice) (Block anyPeriod printedTurns w) (length w) v (endsOf w choice) → SplitPrinted w (choiceOf choice) name (splitLines w name v (endsOf w choice))
+    go : (v : Cell) → Answers (choiceOf choice) (Block heldPeriod printedTurns w) (length w) v (endsOf w choice) → SplitPrinted w (choiceOf choice) name (splitLines w name v (endsOf w choice))
     go unreachable A = none-printed A refl
     go (reached s p) A = best-printed (endsOf w choice) (rw (A .sized) A) (rw (A .sized) refl)
 

@@ -14,7 +14,7 @@ use Rattle.answers.specs.declared.Refusal.{Refusal}
 use Rattle.answers.specs.Outcome.{accepted, refusal, countedView}
 use Rattle.laws.proofs.OneOrTwo.{one-or-two}
 use Rattle.answers.proofs.Claims.{refused-accepted}
-use Rattle.periods.specs.Period.{repetition?, anyPeriod}
+use Rattle.periods.specs.Period.{repetition?, heldPeriod}
 use Rattle.runs.specs.Table.{runsOf}
 use Rattle.runs.proofs.Few.{table-at-most}
 use Rattle.factors.specs.Factorization.{Factorization, choiceOf, Cell, unreachable, reached, bestEnds}
@@ -34,11 +34,11 @@ use Rattle.report.proofs.Lines.{run-lines-long, block-lines-long}
 
 -- the ends of the best split
 abbrev pub endsOf : List ℕ → ℕ → List ℕ
-endsOf w choice = bestEnds (choiceOf choice) (block? anyPeriod printedTurns w) (length w)
+endsOf w choice = bestEnds (choiceOf choice) (block? heldPeriod printedTurns w) (length w)
 
 -- an answer of so many blocks, with the ends' table x
 pub record Blocked (w : List ℕ) (choice : ℕ) (name : List ℕ) (size : ℕ) (x : List ℕ) : Type 0 where
-  pub split : Factorization (Block anyPeriod printedTurns w) (length w) (endsOf w choice)
+  pub split : Factorization (Block heldPeriod printedTurns w) (length w) (endsOf w choice)
   pub few : 2 * size ≤ length w
   pub ends : take (size - 0) x ≡ endsOf w choice
   pub lines : line name (size ∷ []) ++ blockLines w 0 0 (endsOf w choice) ≡ splitText w choice name
@@ -47,16 +47,16 @@ module _ (w : List ℕ) (choice : ℕ) (name e t : List ℕ) (held : length w �
   room : rows * (length w + 1) ≤ length t
   room = omega arith
 
-  given : Promised w printedEdition choice e t (sizeOutcome (lastCell printedTurns w choice) (length e)) (settledEnds (repetition? anyPeriod printedTurns) w choice e)
-      (settledWork (repetition? anyPeriod printedTurns) w choice t)
+  given : Promised w printedEdition choice e t (sizeOutcome (lastCell printedTurns w choice) (length e)) (settledEnds (repetition? heldPeriod printedTurns) w choice e)
+      (settledWork (repetition? heldPeriod printedTurns) w choice t)
   given = promised-chosen w printedEdition choice e t (omega arith) (inl refl) _ _ _ (chosen-settled _ w choice e t (one-or-two choice low high) room)
 
   pub split-refused : (a : Counted) (r : Refusal) → a ≡ Refused r → countedView a ≡ bestOutcome w printedEdition choice e t → name ++ noneText ≡ splitText w choice name
   unfolding splitText
   split-refused a r is f =
-      go (lastCell printedTurns w choice) (word-answers printedTurns (choiceOf choice) w (length w)) (ap countedView (sym is) ∙ f ∙ sym (given .answer))
+      go (lastCell printedTurns w choice) (word-answers heldPeriod printedTurns (choiceOf choice) w (length w)) (ap countedView (sym is) ∙ f ∙ sym (given .answer))
     where
-      go : (v : Cell) → Answers (choiceOf choice) (Block anyPeriod printedTurns w) (length w) v (endsOf w choice) → refusal r ≡ sizeOutcome v (length e)
+      go : (v : Cell) → Answers (choiceOf choice) (Block heldPeriod printedTurns w) (length w) v (endsOf w choice) → refusal r ≡ sizeOutcome v (length e)
           → name ++ noneText ≡ splitLines w name v (endsOf w choice)
       go unreachable A f = refl
       go (reached s p) A f =
@@ -67,9 +67,9 @@ module _ (w : List ℕ) (choice : ℕ) (name e t : List ℕ) (held : length w �
   pub split-counted : (a : Counted) (size : ℕ) → a ≡ Count size → countedView a ≡ bestOutcome w printedEdition choice e t → (x : List ℕ) → x ≡ bestEndsTable w printedEdition choice e t → Blocked w choice name size x
   unfolding splitText
   split-counted a size is f x g =
-      go (lastCell printedTurns w choice) refl (word-answers printedTurns (choiceOf choice) w (length w)) (ap countedView (sym is) ∙ f ∙ sym (given .answer)) (g ∙ sym (given .ends))
+      go (lastCell printedTurns w choice) refl (word-answers heldPeriod printedTurns (choiceOf choice) w (length w)) (ap countedView (sym is) ∙ f ∙ sym (given .answer)) (g ∙ sym (given .ends))
     where
-      go : (v : Cell) → lastCell printedTurns w choice ≡ v → Answers (choiceOf choice) (Block anyPeriod printedTurns w) (length w) v (endsOf w choice) → accepted (size ∷ []) ≡ sizeOutcome v (length e)
+      go : (v : Cell) → lastCell printedTurns w choice ≡ v → Answers (choiceOf choice) (Block heldPeriod printedTurns w) (length w) v (endsOf w choice) → accepted (size ∷ []) ≡ sizeOutcome v (length e)
           → x ≡ sizeEnds v (endsOf w choice) e → Blocked w choice name size x
       go unreachable c A f g = absurd (refused-accepted (accepted (size ∷ [])) 2 0 (size ∷ []) f refl)
       go (reached s p) c A f g =
@@ -94,9 +94,9 @@ text-is w h = rw (le-ltb programLimit (length w) h) refl
 
 pub split-long : (w : List ℕ) (choice : ℕ) (name : List ℕ) → length w ≤ programLimit → length name ≤ 6 → length (splitText w choice name) ≤ splitBytes
 unfolding splitText
-split-long w choice name h k = go (lastCell printedTurns w choice) (word-answers printedTurns (choiceOf choice) w (length w))
+split-long w choice name h k = go (lastCell printedTurns w choice) (word-answers heldPeriod printedTurns (choiceOf choice) w (length w))
   where
-    go : (v : Cell) → Answers (choiceOf choice) (Block anyPeriod printedTurns w) (length w) v (endsOf w choice) → length (splitLines w name v (endsOf w choice)) ≤ splitBytes
+    go : (v : Cell) → Answers (choiceOf choice) (Block heldPeriod printedTurns w) (length w) v (endsOf w choice) → length (splitLines w name v (endsOf w choice)) ≤ splitBytes
     go unreachable A = omega (arith, length-append name noneText)
     go (reached s p) A =
         omega (

@@ -4,7 +4,7 @@ use mathlib.Core.List.{List, [], _∷_, _++_}
 use Prim.Native.Nat.{ℕ, _≤_, _<_}
 use lib.ListN.{length}
 use lib.Seq.{sets}
-use Rattle.periods.specs.Period.{anyPeriod}
+use Rattle.periods.specs.Period.{heldPeriod}
 use Rattle.runs.specs.declared.Record.{Record}
 use Rattle.runs.specs.Run.{Lists}
 use Rattle.factors.specs.Factorization.{Choice, smallest, largest, size, Best}
@@ -16,7 +16,7 @@ use Rattle.writers.specs.Line.{line}
 -- "fewest with its size and then its blocks, and most in the same way"; "With no split it prints fewest,none and most,none."
 pub data SplitPrinted (w : List ℕ) (c : Choice) (name s : List ℕ) : Type 0 where
   none-printed : Unsplittable printedTurns w → s ≡ name ++ noneText → SplitPrinted w c name s
-  best-printed : (es : List ℕ) → Best c (Block anyPeriod printedTurns w) (length w) (size es) es → s ≡ line name (size es ∷ []) ++ blockLines w 0 0 es → SplitPrinted w c name s
+  best-printed : (es : List ℕ) → Best c (Block heldPeriod printedTurns w) (length w) (size es) es → s ≡ line name (size es ∷ []) ++ blockLines w 0 0 es → SplitPrinted w c name s
 
 -- "The lines are passes with n, each run in order, fewest ..., and most in the same way."
 pub data Printed (w s : List ℕ) : Type 0 where

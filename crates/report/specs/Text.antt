@@ -5,7 +5,7 @@ use mathlib.Core.List.{List, [], _∷_, _++_}
 use Prim.Native.Nat.{ℕ, suc}
 use lib.Dec.{ltb}
 use lib.ListN.{length}
-use Rattle.periods.specs.Period.{anyPeriod}
+use Rattle.periods.specs.Period.{heldPeriod}
 use Rattle.periods.specs.Edition.{turnsOf}
 use Rattle.runs.specs.declared.Record.{Record}
 use Rattle.runs.specs.Table.{runsOf, numbersOf}
@@ -74,7 +74,7 @@ splitLines w name unreachable ends = name ++ noneText
 splitLines w name (reached s p) ends = line name (s ∷ []) ++ blockLines w 0 0 ends
 
 unfoldable pub splitText : List ℕ → ℕ → List ℕ → List ℕ
-splitText w choice name = splitLines w name (lastCell printedTurns w choice) (bestEnds (choiceOf choice) (block? anyPeriod printedTurns w) (length w))
+splitText w choice name = splitLines w name (lastCell printedTurns w choice) (bestEnds (choiceOf choice) (block? heldPeriod printedTurns w) (length w))
 
 -- "a longer line prints refused,1 alone"
 unfoldable pub text : List ℕ → List ℕ

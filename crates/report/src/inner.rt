@@ -4,7 +4,7 @@ ghost use mathlib.Core.Path.{_≡_};
 ghost use Prim.Native.Nat.{_≤_, _<_, _+_, _*_, _^_};
 ghost use lib.ListN.{length};
 ghost use lib.Seq.{sets};
-ghost use Rattle.periods.specs.Period.{anyPeriod};
+ghost use Rattle.periods.specs.Period.{heldPeriod};
 ghost use Rattle.runs.specs.Table.{stride, records};
 ghost use Rattle.factors.specs.Factorization.{Factorization, fewest, most};
 ghost use Rattle.repetitions.specs.Block.{Block};
@@ -49,12 +49,13 @@ fn block_line(
     out: &mut [u8],
     at: usize,
 ) -> usize
-    requires { ⌜ (at < 2 ^ 29) × (length (now w) ≤ programLimit) × (k ≤ before) × Block anyPeriod printedTurns (now w) before end ⌝ }
+    requires { ⌜ (at < 2 ^ 29) × (length (now w) ≤ programLimit) × (k ≤ before) × Block heldPeriod printedTurns (now w) before end ⌝ }
     requires { ⌜ RunsHeld (now w) runs count ⌝ }
     ensures { λ r. ⌜ r ≡ at + length (blockLine (now (w .entry)) (k + 1) before end) ⌝ }
     ensures { λ _. ⌜ now (out .exit) ≡ sets (now (out .entry)) at (blockLine (now (w .entry)) (k + 1) before end) ⌝ }
 {
-    let unit = periods::smallest_period(&w[before..end]);
+    let turns = periods::turns(EDITION);
+    let unit = periods::inner::block_unit(&w[before..end], turns);
     let run = finder::inner::find_in(runs, count, (before + 1) as u32, end as u32, unit as u32) + 1;
     let numbers = runs::inner::block_numbers(k, before, end, unit as u32, run as u32);
     writers::inner::put_line(out, at, b"block", &numbers)
@@ -69,7 +70,7 @@ fn block_lines(
     out: &mut [u8],
     at: usize,
 ) -> usize
-    requires { ⌜ (at < 2 ^ 20) × (length (now w) ≤ programLimit) × Factorization (Block anyPeriod printedTurns (now w)) (length (now w)) (now ends) ⌝ }
+    requires { ⌜ (at < 2 ^ 20) × (length (now w) ≤ programLimit) × Factorization (Block heldPeriod printedTurns (now w)) (length (now w)) (now ends) ⌝ }
     requires { ⌜ RunsHeld (now w) runs count ⌝ }
     ensures { λ r. ⌜ r ≡ at + length (blockLines (now (w .entry)) 0 0 (now (ends .entry))) ⌝ }
     ensures { λ _. ⌜ now (out .exit) ≡ sets (now (out .entry)) at (blockLines (now (w .entry)) 0 0 (now (ends .entry))) ⌝ }

@@ -11,10 +11,8 @@ use lib.ListN.{length, take}
 use Rattle.answers.specs.Outcome.{Outcome, refused, limit}
 use Rattle.answers.proofs.Claims.{refused-number}
 use Rattle.periods.specs.Period.{part, Repetition, anyPeriod}
-use Rattle.periods.specs.Square.{Square, square?}
-use Rattle.periods.specs.Edition.{turnsOf}
+use Rattle.periods.specs.Square.{twice, Square, square?}
 use Rattle.periods.proofs.InPlace.{placed-part}
-use Rattle.periods.proofs.Editions.{turns-of-edition-1}
 use Rattle.periods.proofs.Squares.{square-even, square-repeats}
 use Rattle.factors.specs.Factorization.{Factorization, size, Choice, cell, bestEnds}
 use Rattle.factors.specs.Table.{none, sizeIn}
@@ -38,11 +36,9 @@ module _ (c : Choice) (w : List ℕ) (m : ℕ) where
   pub squares-reported : m ≤ length w → length w < none → Reported Square c (take m w) (sizeIn (cell c (piece? square? w) m))
   squares-reported = prefix-reported Square square? square-decides c w m
 
--- CLAIM: a split into squares is a split into blocks of edition 1, and has at most half as many squares as symbols, rounded down
-pub squares-blocks : (w : List ℕ) (m : ℕ) (es : List ℕ) → Factorization (Piece Square w) m es → Factorization (Piece (Repetition anyPeriod (turnsOf 1)) w) m es
-squares-blocks w m es =
-    chain-map (Piece Square w) (Piece (Repetition anyPeriod (turnsOf 1)) w)
-    (λ i j K. (K .0, subst (λ (k : ℕ). Repetition anyPeriod k (part w i j)) (sym turns-of-edition-1) (square-repeats (part w i j) (K .1)))) 0 es m
+-- CLAIM: a split into squares is one into repetitions of two turns, with units of any length; and it has at most half as many squares as symbols, rounded down
+pub squares-repetitions : (w : List ℕ) (m : ℕ) (es : List ℕ) → Factorization (Piece Square w) m es → Factorization (Piece (Repetition anyPeriod twice) w) m es
+squares-repetitions w m es = chain-map (Piece Square w) (Piece (Repetition anyPeriod twice) w) (λ i j K. (K .0, square-repeats (part w i j) (K .1))) 0 es m
 
 pub squares-half : (w : List ℕ) (m : ℕ) (es : List ℕ) → Factorization (Piece Square w) m es → size es ≤ m / 2
 squares-half w = size-half (Piece Square w) long

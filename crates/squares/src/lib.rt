@@ -10,7 +10,7 @@ use answers::Refusal;
 // Gives the size, and writes the ends of the factorization of that size whose last square is
 // longest, then the one before it, and so on. The working table afterwards holds the best size of
 // each prefix length. Refusals: 1, 8, 9, 2, 7; with n/2 places for the ends of n symbols 7 never
-// comes. Time: quadratic in the word's length at most. 300 bytes of stack, and 48 a square.
+// comes. Time: quadratic in the word's length at most. 350 bytes of stack, and 48 a square.
 pub fn best_squares(w: &[u8], choice: u32, ends: &mut [u32], work: &mut [u32]) -> Counted
     ensures answer { λ r. ⌜ countedView r ≡ squaresOutcome (now (w .entry)) choice (now (ends .entry)) (now (work .entry)) ⌝ }
     ensures written { λ r. ⌜ now (ends .exit) ≡ squaresEnds (now (w .entry)) choice (now (ends .entry)) (now (work .entry)) ⌝ }

@@ -4,6 +4,8 @@
 pub type Answer<T> = Result<T, (u32, u32)>;
 
 const LIMIT: usize = 4096;
+/// The longest unit of a block.
+const UNIT_MEMORY: usize = 256;
 /// Words of at most so many symbols get small arrays.
 const SHORT: usize = 64;
 /// Parts of at most so many symbols are not halved.
@@ -25,14 +27,21 @@ fn turns_of(edition: u32) -> Answer<usize> {
     }
 }
 
-fn smallest_period(part: &[u8]) -> usize {
+/// Whether a part of this length with this unit is a block.
+fn is_block_of(turns: usize, len: usize, unit: usize) -> bool {
+    unit <= UNIT_MEMORY && turns * unit <= len
+}
+
+/// The unit of a part if it is a block, else 0. No unit is tried that a block of the length cannot
+/// have.
+fn block_unit(part: &[u8], turns: usize) -> usize {
     let n = part.len();
-    if n == 0 {
-        return 0;
-    }
     let mut p = 0;
     'outer: loop {
         p += 1;
+        if !is_block_of(turns, n, p) {
+            break 0;
+        }
         let mut i = 0;
         while i < n - p {
             if part[i] != part[i + p] {
@@ -89,7 +98,7 @@ pub fn part(w: &[u8], edition: u32, first: u32, last: u32, table: &mut [u32]) ->
         unit as u32,
         (len / unit) as u32,
         (len % unit) as u32,
-        (turns * unit <= len) as u32,
+        is_block_of(turns, len, unit) as u32,
     ])
 }
 
@@ -285,8 +294,9 @@ pub fn runs(w: &[u8], table: &mut [u32]) -> Answer<u32> {
 fn pick(records: &[u32], turns: usize, x: usize, out: &mut [u32]) -> usize {
     let mut found = 0;
     for (i, record) in records.chunks_exact(STRIDE).enumerate() {
-        let from = record[0] as usize + turns * record[2] as usize;
-        if from <= x + 1 && x <= record[1] as usize {
+        let unit = record[2] as usize;
+        let from = record[0] as usize + turns * unit;
+        if unit <= UNIT_MEMORY && from <= x + 1 && x <= record[1] as usize {
             store(out, found, (i + 1) as u32);
             found += 1;
         }
@@ -343,37 +353,54 @@ fn offer(work: &mut [u32], choice: u32, at: usize, back: usize, size: u32, j: u3
     }
 }
 
-/// Whether a part of a length may stand in a split, where so many turns of its unit have the length
-/// span: a block where it is at least as long.
-fn is_block(length: usize, span: usize) -> bool {
-    span <= length
+/// What may stand in a split: how many turns it has at least, how many symbols after a boundary are
+/// read for it, and whether a part of a length is one, where the turns of its unit have the length
+/// span.
+#[derive(Clone, Copy)]
+struct Rule<F> {
+    turns: usize,
+    window: usize,
+    fits: F,
 }
 
-/// The same for a square, of two turns or of so many times two.
-fn is_square(length: usize, span: usize) -> bool {
-    length % span == 0
+/// A block is at least as long as its turns. One that is longer than the window goes on with a period
+/// of those that are read.
+fn blocks(turns: usize) -> Rule<impl Fn(usize, usize) -> bool + Copy> {
+    Rule {
+        turns,
+        window: turns * UNIT_MEMORY,
+        fits: |length, span| span <= length,
+    }
 }
 
-fn spread(
+/// A square has two turns or so many times two, of a half of any length: all that follows is read.
+fn squares() -> Rule<impl Fn(usize, usize) -> bool + Copy> {
+    Rule {
+        turns: 2,
+        window: LIMIT,
+        fits: |length, span| length % span == 0,
+    }
+}
+
+fn spread<F: Fn(usize, usize) -> bool>(
     work: &mut [u32],
     n: usize,
-    turns: usize,
+    rule: Rule<F>,
     choice: u32,
     j: usize,
+    len: usize,
     size: u32,
-    fits: impl Fn(usize, usize) -> bool,
 ) {
     let row = n + 1;
     let unit_row = row + row;
-    let len = n - j;
     let mut d = 0;
     while d < len {
-        let span = turns * work[unit_row + d] as usize;
+        let span = rule.turns * work[unit_row + d] as usize;
         if len < span {
             return;
         }
         d += 1;
-        if !fits(d, span) {
+        if !(rule.fits)(d, span) {
             continue;
         }
         let m = j + d;
@@ -381,27 +408,56 @@ fn spread(
     }
 }
 
-fn fill(
+/// Offers a size from boundary j, if it is reached, wherever a block from it ends in the window. Gives
+/// the unit of the window, or what is known where the boundary is not reached.
+fn visit<F: Fn(usize, usize) -> bool>(
     w: &[u8],
-    turns: usize,
+    rule: Rule<F>,
+    choice: u32,
+    j: usize,
+    known: usize,
+    work: &mut [u32],
+) -> usize {
+    let size = work[j];
+    if size == NONE {
+        return known;
+    }
+    let n = w.len();
+    let two = 2 * (n + 1);
+    let len = rule.window.min(n - j);
+    units(&w[j..j + len], &mut work[two..]);
+    spread(work, n, rule, choice, j, len, size + 1);
+    work[two + len - 1] as usize
+}
+
+/// Passes the blocks that end at boundary m, where a window ends, on to the next one if a period of
+/// the window goes on there.
+fn lengthen(w: &[u8], m: usize, period: usize, work: &mut [u32]) {
+    let n = w.len();
+    if n <= m || w[m] != w[m - period] {
+        return;
+    }
+    let row = n + 1;
+    work[m + 1] = work[m];
+    work[row + m + 1] = work[row + m];
+}
+
+fn fill<F: Fn(usize, usize) -> bool + Copy>(
+    w: &[u8],
+    rule: Rule<F>,
     choice: u32,
     work: &mut [u32],
-    fits: impl Fn(usize, usize) -> bool,
 ) {
     let n = w.len();
     let row = n + 1;
     let two = row + row;
-    let three = two + row;
     work[0] = 0;
     work[1..row].fill(NONE);
     work[row..two].fill(0);
+    let mut unit = 0;
     for j in 0..n {
-        let size = work[j];
-        if size == NONE {
-            continue;
-        }
-        units(&w[j..n], &mut work[two..three]);
-        spread(work, n, turns, choice, j, size + 1, &fits);
+        unit = visit(w, rule, choice, j, unit, work);
+        lengthen(w, j + rule.window, unit, work);
     }
     work[two..two + two].fill(0);
 }
@@ -425,23 +481,22 @@ pub fn best_split(
     if LIMIT < w.len() {
         return Err((1, 0));
     }
-    best(w, turns_of(edition)?, choice, ends, work, is_block)
+    best(w, blocks(turns_of(edition)?), choice, ends, work)
 }
 
 pub fn best_squares(w: &[u8], choice: u32, ends: &mut [u32], work: &mut [u32]) -> Answer<u32> {
     if LIMIT < w.len() {
         return Err((1, 0));
     }
-    best(w, 2, choice, ends, work, is_square)
+    best(w, squares(), choice, ends, work)
 }
 
-fn best(
+fn best<F: Fn(usize, usize) -> bool + Copy>(
     w: &[u8],
-    turns: usize,
+    rule: Rule<F>,
     choice: u32,
     ends: &mut [u32],
     work: &mut [u32],
-    fits: impl Fn(usize, usize) -> bool,
 ) -> Answer<u32> {
     let n = w.len();
     if choice != 1 && choice != 2 {
@@ -450,7 +505,7 @@ fn best(
     if work.len() < 4 * (n + 1) {
         return Err((9, 0));
     }
-    fill(w, turns, choice, work, fits);
+    fill(w, rule, choice, work);
     let size = work[n];
     let row = n + 1;
     let answer = if size == NONE {
@@ -482,7 +537,7 @@ fn admit(a: &[u8], b: &[u8], edition: u32, work: &[u32]) -> Answer<(usize, usize
 pub fn which_first(a: &[u8], b: &[u8], edition: u32, work: &mut [u32]) -> Answer<u32> {
     let (turns, places) = admit(a, b, edition, work)?;
     let sizes = [a, b].map(|w| {
-        fill(w, turns, 1, work, is_block);
+        fill(w, blocks(turns), 1, work);
         work[w.len()]
     });
     work[..places].fill(0);
@@ -508,7 +563,7 @@ pub fn first_block(a: &[u8], b: &[u8], edition: u32, work: &mut [u32]) -> [u32; 
     };
     let found = [a, b].map(|w| {
         let row = w.len() + 1;
-        fill(w, turns, 1, work, is_block);
+        fill(w, blocks(turns), 1, work);
         (work[w.len()], first_end(&work[row..row + row], w.len()))
     });
     work[..places].fill(0);
@@ -527,7 +582,7 @@ pub fn judge_split(w: &[u8], edition: u32, ends: &[u32]) -> Answer<u32> {
         return Err((1, 0));
     }
     let turns = turns_of(edition)?;
-    judge(w, ends, |part| turns * smallest_period(part) <= part.len())
+    judge(w, ends, |part| block_unit(part, turns) != 0)
 }
 
 fn same_halves(part: &[u8]) -> bool {
@@ -581,7 +636,7 @@ fn unit_of(part: &[u8], unit_table: &mut [u32]) -> u32 {
 
 fn blocks_in(w: &[u8], turns: usize, ends: &[u32], unit_table: &mut [u32]) -> Answer<u32> {
     judge(w, ends, |part| {
-        turns * unit_of(part, unit_table) as usize <= part.len()
+        is_block_of(turns, part.len(), unit_of(part, unit_table) as usize)
     })
 }
 
@@ -680,7 +735,7 @@ fn path_in(
         }
         noted = note(records, before, noted, latest);
         let unit = unit_of(&w[before..end], unit_table) as usize;
-        if end < before + turns * unit || latest[unit] != pair[0] {
+        if !is_block_of(turns, end - before, unit) || latest[unit] != pair[0] {
             return Err((4, blocks));
         }
         before = end;

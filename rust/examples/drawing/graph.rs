@@ -1,6 +1,6 @@
 //! What is drawn: the runs of a word, its graph, and the paths of its best splits.
 
-use cegridom::{best_split, path_of_split, runs, Choice, Edition, Refusal, Run};
+use cegridom::{best_split, path_of_split, runs, Choice, Edition, Refusal, Run, UNIT_MEMORY};
 use std::ops::RangeInclusive;
 
 /// The edition that is drawn, and the turns of its blocks at least.
@@ -83,9 +83,12 @@ impl<'w> Graph<'w> {
         TURNS * self.runs[run - 1].unit as usize
     }
 
-    /// The positions of a run's white nodes.
+    /// The positions of a run's white nodes: none where its unit is longer than that of any block.
     pub fn positions(&self, run: usize) -> RangeInclusive<usize> {
-        let Run { first, last, .. } = self.runs[run - 1];
+        let Run {
+            first, last, unit, ..
+        } = self.runs[run - 1];
+        let last = if unit <= UNIT_MEMORY { last } else { 0 };
         first as usize + self.span(run) - 1..=last as usize
     }
 

@@ -9,6 +9,8 @@
 
 pub const LIMIT: usize = 4096;
 pub const NONE: u32 = u32::MAX;
+/// What unit memory holds: no block has a longer unit, in either edition.
+pub const UNIT_MEMORY: usize = 256;
 
 /// An answer with its values, or a refusal with its number and index.
 #[derive(Clone, Debug, PartialEq, Eq)]
@@ -36,12 +38,33 @@ pub fn turns(edition: u32) -> Option<usize> {
     }
 }
 
-/// The turns of an edition, or the two refusals that come first in each call that is told one.
-fn turns_for(w: &[u8], edition: u32) -> Result<usize, Outcome> {
+/// What a block is: a part of at least so many turns of its unit, which a memory of so many symbols
+/// holds.
+#[derive(Clone, Copy)]
+pub struct Rule {
+    pub turns: usize,
+    pub memory: usize,
+}
+
+impl Rule {
+    pub fn of(edition: u32) -> Option<Rule> {
+        turns(edition).map(|turns| Rule {
+            turns,
+            memory: UNIT_MEMORY,
+        })
+    }
+
+    fn is_block(self, length: usize, unit: usize) -> bool {
+        unit <= self.memory && self.turns * unit <= length
+    }
+}
+
+/// The rule of an edition, or the two refusals that come first in each call that is told one.
+fn rule_for(w: &[u8], edition: u32) -> Result<Rule, Outcome> {
     if w.len() > LIMIT {
         return Err(refused(1));
     }
-    turns(edition).ok_or(refused(12))
+    Rule::of(edition).ok_or(refused(12))
 }
 
 // ---- periods
@@ -86,8 +109,9 @@ pub fn units(part: &[u8]) -> Vec<u32> {
     units
 }
 
-fn is_block(part: &[u8], turns: usize) -> bool {
-    !part.is_empty() && part.len() >= turns * unit(part)
+pub fn plain_is_block(part: &[u8], rule: Rule) -> bool {
+    let unit = plain_unit(part);
+    part.len() >= rule.turns * unit && unit <= rule.memory
 }
 
 // ---- runs
@@ -140,9 +164,8 @@ pub fn plain_runs(w: &[u8]) -> Vec<Run> {
     for first in 1..=n {
         for last in first..=n {
             let p = plain_unit(&w[first - 1..last]);
-            // A run has two turns in every edition.
-            let block = last + 1 - first >= 2 * p;
-            if block
+            // A run has two turns in every edition, of a unit of any length.
+            if last + 1 - first >= 2 * p
                 && (first == 1 || at(first - 1) != at(first + p - 1))
                 && (last == n || at(last + 1) != at(last + 1 - p))
             {
@@ -177,10 +200,11 @@ pub fn runs(w: &[u8]) -> Vec<Run> {
 }
 
 /// The numbers of the runs with a white node at a position.
-pub fn white(runs: &[Run], turns: usize, position: usize) -> Vec<u32> {
+pub fn white(runs: &[Run], rule: Rule, position: usize) -> Vec<u32> {
     let mut numbers = Vec::new();
     for (i, &(first, last, p, _)) in runs.iter().enumerate() {
-        if (first + turns * p - 1..=last).contains(&position) {
+        // A run whose unit memory does not hold has none.
+        if p <= rule.memory && (first + rule.turns * p - 1..=last).contains(&position) {
             numbers.push(i as u32 + 1);
         }
     }
@@ -236,8 +260,8 @@ fn plain_joined(w: &[u8], fits: &dyn Fn(&[u8]) -> bool) -> Vec<Vec<u32>> {
     all
 }
 
-pub fn plain_splits(w: &[u8], turns: usize) -> Vec<Vec<u32>> {
-    plain_joined(w, &|part| part.len() >= turns * plain_unit(part))
+pub fn plain_splits(w: &[u8], rule: Rule) -> Vec<Vec<u32>> {
+    plain_joined(w, &|part| plain_is_block(part, rule))
 }
 
 pub fn plain_squares(w: &[u8]) -> Vec<Vec<u32>> {
@@ -336,13 +360,15 @@ impl Sizes {
     }
 }
 
-/// The same for each edition and choice: each boundary looks back at the blocks that end there, the
-/// longest first. The units, which take most of the time, are found once.
-pub fn bests(w: &[u8]) -> [[Best; 2]; 2] {
+/// The same for each edition and choice, with a memory of so many symbols: each boundary looks back at
+/// the blocks that end there, the longest first. The units, which take most of the time, are found
+/// once.
+pub fn bests(w: &[u8], memory: usize) -> [[Best; 2]; 2] {
     let n = w.len();
     let mut all = EDITIONS.map(|edition| {
         let turns = turns(edition).expect("both are editions");
-        (turns, [1, 2].map(|choice| Sizes::new(n, choice)))
+        let rule = Rule { turns, memory };
+        (rule, [1, 2].map(|choice| Sizes::new(n, choice)))
     });
     for m in 1..=n {
         let reversed: Vec<u8> = w[..m].iter().rev().copied().collect();
@@ -350,8 +376,8 @@ pub fn bests(w: &[u8]) -> [[Best; 2]; 2] {
         for j in 0..m {
             let length = m - j;
             let unit = length - border[length - 1];
-            for (turns, both) in &mut all {
-                if length >= *turns * unit {
+            for (rule, both) in &mut all {
+                if rule.is_block(length, unit) {
                     both.iter_mut().for_each(|sizes| sizes.look_back(j, m));
                 }
             }
@@ -377,7 +403,7 @@ pub fn best_squares(w: &[u8]) -> [Best; 2] {
 // ---- the graph
 
 /// The encodings of all paths from joint 0 to a joint, by walking the graph's edges.
-pub fn plain_paths(runs: &[Run], turns: usize, n: usize, target: usize) -> Vec<Vec<u32>> {
+pub fn plain_paths(runs: &[Run], rule: Rule, n: usize, target: usize) -> Vec<Vec<u32>> {
     #[derive(Clone, Copy)]
     enum Node {
         Black(usize),
@@ -385,12 +411,13 @@ pub fn plain_paths(runs: &[Run], turns: usize, n: usize, target: usize) -> Vec<V
     }
     struct Graph<'r> {
         runs: &'r [Run],
-        turns: usize,
+        rule: Rule,
         n: usize,
     }
     impl Graph<'_> {
-        fn is_white(&self, run: Run, position: usize) -> bool {
-            (run.0 + self.turns * run.2 - 1..=run.1).contains(&position)
+        fn is_white(&self, (first, last, unit, _): Run, position: usize) -> bool {
+            let Rule { turns, memory } = self.rule;
+            unit <= memory && first + turns * unit <= position + 1 && position <= last
         }
 
         fn go(&self, at: Node, target: usize, code: &[u32], all: &mut Vec<Vec<u32>>) {
@@ -400,7 +427,7 @@ pub fn plain_paths(runs: &[Run], turns: usize, n: usize, target: usize) -> Vec<V
                         all.push(code.to_vec());
                     }
                     for (i, &run) in self.runs.iter().enumerate() {
-                        let x = j + self.turns * run.2;
+                        let x = j + self.rule.turns * run.2;
                         if x <= self.n && self.is_white(run, x) {
                             self.go(Node::White(i, x), target, code, all);
                         }
@@ -418,7 +445,7 @@ pub fn plain_paths(runs: &[Run], turns: usize, n: usize, target: usize) -> Vec<V
         }
     }
     let mut all = Vec::new();
-    Graph { runs, turns, n }.go(Node::Black(0), target, &[], &mut all);
+    Graph { runs, rule, n }.go(Node::Black(0), target, &[], &mut all);
     all
 }
 
@@ -431,8 +458,8 @@ pub fn part_call(
     last: u32,
     places: usize,
 ) -> (Outcome, Vec<u32>) {
-    let turns = match turns_for(w, edition) {
-        Ok(turns) => turns,
+    let rule = match rule_for(w, edition) {
+        Ok(rule) => rule,
         Err(outcome) => return (outcome, vec![]),
     };
     if first < 1 || last as usize > w.len() || first > last {
@@ -443,11 +470,10 @@ pub fn part_call(
         return (refused(7), vec![]);
     }
     let units = units(part);
-    let unit = units[part.len() - 1];
-    let length = part.len() as u32;
-    let block = length >= turns as u32 * unit;
-    let values = vec![unit, length / unit, length % unit, block as u32];
-    (Accepted(values), units)
+    let (length, unit) = (part.len(), units[part.len() - 1] as usize);
+    let block = rule.is_block(length, unit) as usize;
+    let values = [unit, length / unit, length % unit, block];
+    (Accepted(values.map(|v| v as u32).to_vec()), units)
 }
 
 pub fn runs_call(w: &[u8], runs: &[Run], places: usize) -> (Outcome, Vec<u32>) {
@@ -472,14 +498,14 @@ pub fn nodes_call(
     position: u32,
     places: usize,
 ) -> (Outcome, Vec<u32>) {
-    let turns = match turns_for(w, edition) {
-        Ok(turns) => turns,
+    let rule = match rule_for(w, edition) {
+        Ok(rule) => rule,
         Err(outcome) => return (outcome, vec![]),
     };
     if position < 1 || position as usize > w.len() {
         return (refused(6), vec![]);
     }
-    let numbers = white(runs, turns, position as usize);
+    let numbers = white(runs, rule, position as usize);
     if places < numbers.len() {
         return (refused(7), vec![]);
     }
@@ -497,7 +523,7 @@ pub fn best_call(
     places: usize,
     work_places: usize,
 ) -> BestAnswer {
-    match turns_for(w, edition) {
+    match rule_for(w, edition) {
         Ok(_) => hand_out(w.len(), choice, best, places, work_places),
         Err(outcome) => (outcome, vec![], vec![]),
     }
@@ -598,12 +624,14 @@ fn verdict(n: usize, ends: &[u32], fits: impl Fn(usize, usize, usize) -> bool) -
 }
 
 pub fn judge_split_call(w: &[u8], edition: u32, ends: &[u32]) -> Outcome {
-    let turns = match turns_for(w, edition) {
-        Ok(turns) => turns,
+    let rule = match rule_for(w, edition) {
+        Ok(rule) => rule,
         Err(outcome) => return outcome,
     };
-    verdict(w.len(), ends, |_, i, j| is_block(&w[i..j], turns))
-        .unwrap_or_else(|| Accepted(vec![ends.len() as u32]))
+    verdict(w.len(), ends, |_, i, j| {
+        rule.is_block(j - i, unit(&w[i..j]))
+    })
+    .unwrap_or_else(|| Accepted(vec![ends.len() as u32]))
 }
 
 pub fn judge_squares_call(w: &[u8], ends: &[u32]) -> Outcome {
@@ -678,8 +706,8 @@ pub fn page_call(
 }
 
 pub fn judge_path_call(w: &[u8], edition: u32, runs: &[Run], numbers: &[u32]) -> Outcome {
-    let turns = match turns_for(w, edition) {
-        Ok(turns) => turns,
+    let rule = match rule_for(w, edition) {
+        Ok(rule) => rule,
         Err(outcome) => return outcome,
     };
     if numbers.len() % 2 == 1 {
@@ -692,7 +720,7 @@ pub fn judge_path_call(w: &[u8], edition: u32, runs: &[Run], numbers: &[u32]) ->
             return false;
         }
         let (first, last, p, _) = runs[number - 1];
-        first <= i + 1 && j <= last && j - i >= turns * p
+        first <= i + 1 && j <= last && j - i >= rule.turns * p && p <= rule.memory
     })
     .unwrap_or_else(|| Accepted(vec![ends.len() as u32]))
 }

@@ -8,7 +8,7 @@ use borrow.Author.Needs.{needs}
 use lib.ListN.{length}
 use Rattle.laws.proofs.Stores.{sets-front}
 use Rattle.answers.specs.Outcome.{accepted, countedView, limit}
-use Rattle.periods.specs.Period.{anyPeriod}
+use Rattle.periods.specs.Period.{heldPeriod}
 use Rattle.factors.specs.Factorization.{Factorization}
 use Rattle.repetitions.specs.Block.{Block}
 use Rattle.repetitions.specs.Judge.{splitOutcome}
@@ -25,7 +25,7 @@ module _ (w : List ℕ) (edition : ℕ) (ends : List ℕ) (blocks : ℕ) (e : ac
   within : length w ≤ limit
   within = accepted-split w edition ends (blocks ∷ []) e .0
 
-  split : Factorization (Block anyPeriod 2 w) (length w) ends
+  split : Factorization (Block heldPeriod 2 w) (length w) ends
   split = edition-two-turns edition w (length w) ends (accepted-split w edition ends (blocks ∷ []) e .3)
 
   counted : blocks ≡ length ends
@@ -67,7 +67,7 @@ cast-t16 : tie.Need-cast-t16
 cast-t16 c =
     let g = c .before .before .before .before .before .before .before .before .before .before .before .before .args in
     let e = ap countedView (sym (c .before .before .before .before .before .before .verdict2 .given .1)) ∙ c .before .before .before .before .before .before .before .before .judge-blocks .ensures in
-    let few = blocks-half anyPeriod 2 (g .w .now) (omega arith) (length (g .w .now)) (g .ends .now) (split (g .w .now) (g .edition) (g .ends .now) _ e) in
+    let few = blocks-half heldPeriod 2 (g .w .now) (omega arith) (length (g .w .now)) (g .ends .now) (split (g .w .now) (g .edition) (g .ends .now) _ e) in
     omega (arith, few, counted (g .w .now) (g .edition) (g .ends .now) _ e, within (g .w .now) (g .edition) (g .ends .now) _ e)
 
 returns-2 : tie.Need-returns-2

@@ -5,7 +5,7 @@ use Prim.Native.Nat.{ℕ}
 use native.Mathlib.Omega.{arith}
 use borrow.Author.Needs.{needs}
 use lib.ListN.{length}
-use Rattle.periods.specs.Period.{anyPeriod}
+use Rattle.periods.specs.Period.{heldPeriod}
 use Rattle.periods.specs.Edition.{Edition}
 use Rattle.periods.proofs.Editions.{turns-given, edition-by-test, no-edition-by-test}
 use Rattle.factors.specs.Verdict.{verdict}
@@ -47,7 +47,7 @@ returns-4 : tie.Need-returns-4
 returns-4 c =
     let g = c .before .before .before .before .before .before .before .before .args in
     path-judged-answered (g .w .now) (g .edition) (g .numbers .now) _
-    (c .follow .ensures ∙ ap (λ (k : ℕ). verdict (segment? anyPeriod k (g .w .now) (g .numbers .now)) (length (g .w .now)) (endsOfPairs (g .numbers .now))) (c .before .turns .ensures)
+    (c .follow .ensures ∙ ap (λ (k : ℕ). verdict (segment? heldPeriod k (g .w .now) (g .numbers .now)) (length (g .w .now)) (endsOfPairs (g .numbers .now))) (c .before .turns .ensures)
     ∙ path-judged (g .w .now) (g .edition) (g .numbers .now) (omega arith) (known (c .before .before .before)) (c .before .before .if3 .left))
 
 pub judge-path-spec : {M : Type 1} → statement M

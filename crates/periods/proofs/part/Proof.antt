@@ -11,7 +11,7 @@ use Rattle.periods.specs.Period.{part, SmallestPeriod, smallestPeriod}
 use Rattle.periods.specs.Edition.{Edition}
 use Rattle.periods.specs.Part.{description, Within}
 use Rattle.periods.proofs.Claims.{smallest-period-is}
-use Rattle.periods.proofs.Editions.{turns-given, turns-below, edition-by-test, no-edition-by-test}
+use Rattle.periods.proofs.Editions.{turns-given, edition-by-test, no-edition-by-test}
 use Rattle.periods.proofs.PartClaims.{described-by, part-length, part-too-long, part-bad-edition, part-outside, part-too-few, part-described, part-answered}
 use Rattle.periods.proofs.part.Statement.{statement}
 use Rattle.periods.proofs.part.Tie as tie
@@ -134,21 +134,20 @@ rem-t28 c = omega (arith, unit-bounds (c .before .before .before))
 cast-t29 : tie.Need-cast-t29
 cast-t29 c = omega (arith, mod-le (length-of (c .before .before .before)) (c .before .before .before .units .result))
 
-mul-t30 : tie.Need-mul-t30
-mul-t30 c =
-    let d = c .before .before .before in
-    omega (arith, turns-below (c .turns .result) (d .units .result) (turns-given (edition-given d) _ (c .turns .ensures)), unit-bounds d)
+is-block-of-requires : tie.Need-is-block-of-requires
+is-block-of-requires c κs = turns-given (edition-given (c .before .before .before)) _ (c .turns .ensures)
 
 same-length : tie.Need-same-length
 same-length c = search needs
 
 returns-7 : tie.Need-returns-7
 returns-7 c =
-    let d = c .before .before .before in
-    let k = c .turns .result in
+    let d = c .before .before .before .before in
+    let k = c .before .turns .result in
     let u = d .units .result in
-    let answer = described-by k (piece d) u (length-of d) (omega arith) (sym (piece-length d)) (d .units .ensures .0) ∙ ap (λ (x : ℕ). description x (piece d)) (c .turns .ensures) in
-    let g = part-described (word d) (edition-given d) (first-given d) (last-given d) (table-lent d) (omega arith) (known (c .before .before .before .before .before .before .before .before .before .before)) (inside d) (omega arith) in
+    let answer = described-by k (piece d) u (length-of d) (c .is-block-of .result) (omega arith) (sym (piece-length d)) (d .units .ensures .0) (c .is-block-of .ensures)
+    ∙ ap (λ (x : ℕ). description x (piece d)) (c .before .turns .ensures) in
+    let g = part-described (word d) (edition-given d) (first-given d) (last-given d) (table-lent d) (omega arith) (known (c .before .before .before .before .before .before .before .before .before .before .before)) (inside d) (omega arith) in
     part-answered (word d) (edition-given d) (first-given d) (last-given d) (table-lent d) _ _ (ap accepted answer ∙ g .0, d .units .ensures .1 ∙ g .1)
 
 pub part-spec : {M : Type 1} → statement M
@@ -174,6 +173,6 @@ part-spec =
     cast-t27
     rem-t28
     cast-t29
-    mul-t30
+    is-block-of-requires
     same-length
     returns-7)

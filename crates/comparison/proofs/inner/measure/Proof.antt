@@ -4,7 +4,7 @@ use mathlib.Core.List.{List}
 use Prim.Native.Nat.{ℕ}
 use native.Mathlib.Omega.{arith}
 use lib.ListN.{length}
-use Rattle.periods.specs.Period.{anyPeriod}
+use Rattle.periods.specs.Period.{heldPeriod}
 use Rattle.periods.specs.Edition.{turnsOf}
 use Rattle.factors.specs.Factorization.{smallest}
 use Rattle.factors.specs.Table.{filled}
@@ -23,7 +23,7 @@ rule-of-requires : tie.Need-rule-of-requires
 rule-of-requires c κs = search needs
 
 -- what fill ensures, for the blocks of the edition
-filled-so : (w : List ℕ) (edition : ℕ) (t x : List ℕ) (r : Rule) → r ≡ ruleOf edition → x ≡ filled smallest (piece? (blockBy r) w) (length w) t → x ≡ filled smallest (block? anyPeriod (turnsOf edition) w) (length w) t
+filled-so : (w : List ℕ) (edition : ℕ) (t x : List ℕ) (r : Rule) → r ≡ ruleOf edition → x ≡ filled smallest (piece? (blockBy r) w) (length w) t → x ≡ filled smallest (block? heldPeriod (turnsOf edition) w) (length w) t
 filled-so w edition t x r q e = e ∙ ap (λ (z : Rule). filled smallest (piece? (blockBy z) w) (length w) t) q
 
 fill-requires : tie.Need-fill-requires
@@ -33,7 +33,7 @@ read-off-requires : tie.Need-read-off-requires
 read-off-requires c κs =
     let g = c .before .before .before .before .before .before .before .before .args in
     let e = filled-so (g .w .now) (g .edition) (g .work .now) _ _ (c .before .before .before .before .before .rule-of .ensures) (c .before .before .before .fill .ensures) in
-    given-readable smallest (block? anyPeriod (turnsOf (g .edition)) (g .w .now)) (length (g .w .now)) (g .work .now) _ e (omega arith) (omega arith) (omega arith)
+    given-readable smallest (block? heldPeriod (turnsOf (g .edition)) (g .w .now)) (length (g .w .now)) (g .work .now) _ e (omega arith) (omega arith) (omega arith)
 
 same-length : tie.Need-same-length
 same-length c = search needs

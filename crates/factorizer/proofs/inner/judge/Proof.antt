@@ -8,7 +8,6 @@ use borrow.Author.Needs.{needs}
 use borrow.Author.Tests.{le-leb, not-true, not-false}
 use lib.ListN.{length, getD}
 use Rattle.periods.specs.Period.{part}
-use Rattle.periods.proofs.InPlace.{placed-part}
 use Rattle.factors.specs.Verdict.{badEnd?}
 use Rattle.factors.proofs.Judging.{end-fits, judgedFrom, judged-first, judged-bad-end, judged-no-block, judged-block, judged-unfinished, judged-finished}
 use Rattle.factorizer.specs.Piece.{piece?}
@@ -91,10 +90,7 @@ part-is-block-end : tie.Need-part-is-block-end Inv-loop μ-loop
 part-is-block-end c = omega (arith, fits c)
 
 is-block-requires : tie.Need-is-block-requires Inv-loop μ-loop
-is-block-requires c κs =
-    let t = turn (c .before) in
-    let l = placed-part (word t) (t .loop .before) (end t) (fits (c .before) .1) .long in
-    (omega (arith, fits (c .before), l), omega (arith, fits (c .before), l), t .before .before .before .pre .1)
+is-block-requires c κs = turn (c .before) .before .before .before .pre .1
 
 -- the test of the piece is what the call answers, since it lies within the word
 tested : (c : Fits) (r : Bool) → r ≡ blockBy (turn c .before .before .before .args .rule) (part (word (turn c)) (turn c .loop .before) (end (turn c)))

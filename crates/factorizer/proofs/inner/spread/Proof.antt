@@ -19,11 +19,11 @@ use Rattle.factorizer.proofs.inner.spread.Statement.{statement}
 use Rattle.factorizer.proofs.inner.spread.Tie as tie
 
 abbrev Inv-loop : tie.InvT-loop
-Inv-loop work₀ n rule choice j size row units len d₀ work d =
+Inv-loop work₀ n rule choice j len size row units d₀ work d =
     (d ≤ len) × (work ≡ spread (choiceOf choice) n j size (endsBlock (rule .square) (rule .turns) n work₀) d work₀)
 
 abbrev μ-loop : tie.MeasureT-loop
-μ-loop work₀ n rule choice j size row units len d₀ work d = len - d
+μ-loop work₀ n rule choice j len size row units d₀ work d = len - d
 
 -- in a turn of the loop: the test of the parts, and the unit of the next one
 abbrev Turn : Type 0
@@ -36,7 +36,7 @@ abbrev unit : Turn → ℕ
 unit c = unitAt (c .before .before .args .n) (c .before .before .args .work .now) (c .loop .d)
 
 abbrev more : Turn → Type 0
-more c = c .loop .d < c .before .before .args .n - c .before .before .args .j
+more c = c .loop .d < c .before .before .args .len
 
 long : (c : Turn) → length (c .loop .work) ≡ length (c .before .before .args .work .now)
 long c =
@@ -63,9 +63,6 @@ add-row c = omega arith
 
 add-units : tie.Need-add-units Inv-loop μ-loop
 add-units c = omega arith
-
-sub-len : tie.Need-sub-len Inv-loop μ-loop
-sub-len c = omega arith
 
 loop-holds : tie.Need-loop-holds Inv-loop μ-loop
 loop-holds c = (omega arith, spread-none _ _ _ _ _ _)
@@ -97,9 +94,9 @@ returns c =
     let t = c .before .before .before .before in
     let g = t .before .before .args in
     let l = t .loop in
-    let e : l .d + (g .n - g .j - l .d) ≡ g .n - g .j = omega arith in
+    let e : l .d + (g .len - l .d) ≡ g .len = omega arith in
     l .inv .1
-    ∙ spread-rest (choiceOf (g .choice)) (g .n) (g .j) (g .size) (test t) (g .work .now) (l .d) (g .n - g .j - l .d)
+    ∙ spread-rest (choiceOf (g .choice)) (g .n) (g .j) (g .size) (test t) (g .work .now) (l .d) (g .len - l .d)
     (λ i x y. too-short (g .rule .square) (i + 1) (g .rule .turns * unitAt (g .n) (g .work .now) i) (omega arith)
     (omega (arith, c .if1 .taken, span-read t (omega arith), mul-le-mul-left (g .rule .turns) (t .before .before .pre .3 .1 (l .d) i x (omega arith)))))
     ∙ ap (λ (x : ℕ). spread (choiceOf (g .choice)) (g .n) (g .j) (g .size) (test t) x (g .work .now)) e
@@ -155,7 +152,7 @@ same-length-2 c = long (c .before)
 returns-2 : tie.Need-returns-2 Inv-loop μ-loop
 returns-2 c =
     let g = c .before .before .before .args in
-    let e : c .before .loop .d ≡ g .n - g .j = omega arith in
+    let e : c .before .loop .d ≡ g .len = omega arith in
     rw e at (c .before .loop .inv .1)
 
 pub spread-spec : {M : Type 1} → statement M
@@ -166,7 +163,6 @@ spread-spec =
     μ-loop
     add-row
     add-units
-    sub-len
     loop-holds
     add-span
     mul-span

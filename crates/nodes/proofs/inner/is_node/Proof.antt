@@ -1,21 +1,28 @@
--- `nodes::inner::is_node` meets its contract: its tests are those of `node?`, in order. Assumes nothing.
+-- `nodes::inner::is_node` meets its contract: its tests are those of `node?`, that of the unit before the others. Assumes nothing.
 use Prim.Native.Nat.{_*_, _≤_}
 use native.Mathlib.Omega.{arith}
 use borrow.Author.Needs.{needs}
+use borrow.Author.Tests.{le-leb, lt-leb}
+use Rattle.periods.specs.Period.{unitMemory, heldPeriod}
 use Rattle.periods.proofs.Editions.{turns-below}
-use Rattle.nodes.proofs.WhiteNodes.{node-early, node-reached}
+use Rattle.nodes.proofs.WhiteNodes.{node-barred, node-early, node-reached}
 use Rattle.nodes.proofs.inner.is_node.Statement.{statement}
 use Rattle.nodes.proofs.inner.is_node.Tie as tie
+
+cast-unit : tie.Need-cast-unit
+cast-unit c = search needs
+
+returns : tie.Need-returns
+returns c =
+    let g = c .before .before .args in
+    node-barred heldPeriod (g .turns) (g .x) (g .run) (lt-leb (g .run .period) unitMemory (c .if1 .taken))
 
 cast-from : tie.Need-cast-from
 cast-from c = search needs
 
-cast-from-2 : tie.Need-cast-from-2
-cast-from-2 c = search needs
-
 -- three times the unit at most
-bounded : (c : tie.After-struct-known2) → c .before .before .args .turns * c .before .before .args .run .period ≤ 3 * c .before .before .args .run .period
-bounded c = let g = c .before .before .args in turns-below (g .turns) (g .run .period) (c .before .before .pre .1)
+bounded : (c : tie.After-struct-known2) → let g = c .before .before .before .args in g .turns * g .run .period ≤ 3 * g .run .period
+bounded c = let g = c .before .before .before .args in turns-below (g .turns) (g .run .period) (c .before .before .before .pre .1)
 
 mul-from : tie.Need-mul-from
 mul-from c = omega (arith, bounded c)
@@ -23,17 +30,20 @@ mul-from c = omega (arith, bounded c)
 add-from : tie.Need-add-from
 add-from c = omega (arith, bounded c)
 
-add-if1 : tie.Need-add-if1
-add-if1 c = search needs
+add-if2 : tie.Need-add-if2
+add-if2 c = search needs
 
-returns : tie.Need-returns
-returns c = let g = c .before .before .before .args in node-early (g .turns) (g .x) (g .run) (c .if1 .taken)
+returns-2 : tie.Need-returns-2
+returns-2 c = let g = c .before .before .before .before .args in node-early heldPeriod (g .turns) (g .x) (g .run) (c .if2 .taken)
 
 cast-result : tie.Need-cast-result
 cast-result c = search needs
 
-returns-2 : tie.Need-returns-2
-returns-2 c = let g = c .before .before .before .before .args in node-reached (g .turns) (g .x) (g .run) (c .before .if1 .left)
+returns-3 : tie.Need-returns-3
+returns-3 c =
+    let d = c .before .before .before in
+    let g = d .before .before .args in
+    node-reached heldPeriod (g .turns) (g .x) (g .run) (le-leb (g .run .period) unitMemory (d .if1 .left)) (c .before .if2 .left)
 
 pub is-node-spec : {M : Type 1} → statement M
-is-node-spec = tie.close (tie.spec cast-from cast-from-2 mul-from add-from add-if1 returns cast-result returns-2)
+is-node-spec = tie.close (tie.spec cast-unit returns cast-from mul-from add-from add-if2 returns-2 cast-result returns-3)

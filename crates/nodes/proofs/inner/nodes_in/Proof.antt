@@ -9,7 +9,7 @@ use lib.ListN.{length}
 use lib.Seq.{sets}
 use Rattle.laws.proofs.Stores.{stored-nowhere}
 use Rattle.answers.specs.Outcome.{limit}
-use Rattle.periods.specs.Period.{anyPeriod}
+use Rattle.periods.specs.Period.{heldPeriod}
 use Rattle.periods.specs.Edition.{turnsOf, Turns}
 use Rattle.periods.proofs.Editions.{turns-given}
 use Rattle.runs.specs.Table.{runsOf, stride, records}
@@ -59,11 +59,11 @@ abbrev table-lent : Counted → List ℕ
 table-lent c = c .before .before .before .before .before .before .before .before .before .before .before .before .before .before .before .args .table .now
 
 abbrev numbers : Counted → List ℕ
-numbers c = nodesAt anyPeriod (turnsOf (edition-given c)) (word (listed c)) (position-given c)
+numbers c = nodesAt heldPeriod (turnsOf (edition-given c)) (word (listed c)) (position-given c)
 
 -- they are what is picked among the records
 abbrev found : Counted → List ℕ
-found c = numbersWhere (node? anyPeriod (c .before .before .before .turns .result) (position-given c)) 0 (records (listed c .list .result) (listed c .list .last .1 .1 .0))
+found c = numbersWhere (node? heldPeriod (c .before .before .before .turns .result) (position-given c)) 0 (records (listed c .list .result) (listed c .list .last .1 .1 .0))
 
 picked : (c : Counted) → found c ≡ numbers c
 picked c = nodes-picked (edition-given c) _ (word (listed c)) (position-given c) _ (c .before .before .before .turns .ensures) (all-runs (listed c))

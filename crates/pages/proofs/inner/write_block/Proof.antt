@@ -4,7 +4,7 @@ use Prim.Native.Nat.{ℕ, _+_, _*_, _≤_, _<_}
 use native.Mathlib.Omega.{arith}
 use borrow.Author.Needs.{needs}
 use lib.Seq.{sets}
-use Rattle.periods.specs.Period.{part, anyPeriod}
+use Rattle.periods.specs.Period.{part, heldPeriod}
 use Rattle.runs.specs.Number.{blockNumbers}
 use Rattle.runs.proofs.Number.{block-numbers-are}
 use Rattle.repetitions.proofs.Blocks.{block-up, block-unit}
@@ -15,10 +15,10 @@ use Rattle.pages.proofs.inner.write_block.Tie as tie
 
 -- at the start: the block goes up, and its unit fits into it
 up : (c : tie.Start) → c .args .before < c .args .end
-up c = block-up anyPeriod 2 (c .args .w .now) (c .args .before) (c .args .end) (c .pre .0 .2)
+up c = block-up heldPeriod 2 (c .args .w .now) (c .args .before) (c .args .end) (c .pre .0 .2)
 
 unit-bounds : (c : tie.Start) → (1 ≤ c .args .unit) × (c .args .before + c .args .unit ≤ c .args .end)
-unit-bounds c = block-unit anyPeriod 2 (c .args .w .now) (c .args .before) (c .args .end) (c .pre .0 .2) (c .args .unit) (c .pre .1 .0)
+unit-bounds c = block-unit heldPeriod 2 (c .args .w .now) (c .args .before) (c .args .end) (c .pre .0 .2) (c .args .unit) (c .pre .1 .0)
 
 block-numbers-requires : tie.Need-block-numbers-requires
 block-numbers-requires c κs =

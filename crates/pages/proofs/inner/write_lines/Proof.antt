@@ -6,7 +6,7 @@ use Prim.Native.Nat.{ℕ, _+_, _-_, _*_, _≤_, _<_}
 use native.Mathlib.Omega.{arith}
 use lib.ListN.{length, getD, drop, replicate, length-replicate}
 use Rattle.laws.proofs.Stores.{lent-long}
-use Rattle.periods.specs.Period.{part, smallestPeriod, anyPeriod}
+use Rattle.periods.specs.Period.{part, smallestPeriod, heldPeriod}
 use Rattle.runs.specs.Number.{runNumber}
 use Rattle.factors.specs.Factorization.{textOfBlocks}
 use Rattle.factors.proofs.BlockByBlock.{Taken, none-taken, next-block, next-in-table, one-more-taken, text-more, text-done}
@@ -27,7 +27,7 @@ most-blocks = 2048
 
 abbrev Inv-loop : tie.InvT-loop
 Inv-loop w ends out₀ units numbers before₀ k₀ out before k =
-    (k ≤ before) × (length out ≡ length out₀) × Taken (Block anyPeriod 2 w) ends (length w) k before
+    (k ≤ before) × (length out ≡ length out₀) × Taken (Block heldPeriod 2 w) ends (length w) k before
     × Left out₀ 0 (page w ends) out (lineBytes * k) (textOfBlocks (pageLine w) k before (drop k ends))
 
 abbrev μ-loop : tie.MeasureT-loop
@@ -35,7 +35,7 @@ abbrev μ-loop : tie.MeasureT-loop
 
 -- there is a place for each block
 few : (w ends : List ℕ) → Factored w ends → length ends ≤ most-blocks
-few w ends F = omega (arith, F .0, blocks-half anyPeriod 2 w (omega arith) (length w) ends (F .1))
+few w ends F = omega (arith, F .0, blocks-half heldPeriod 2 w (omega arith) (length w) ends (F .1))
 
 slice-aggregate-block-units : tie.Need-slice-aggregate-block-units Inv-loop μ-loop
 slice-aggregate-block-units c = refl
@@ -78,11 +78,11 @@ enough c = few (word c) (ends-given c) (c .before .before .before .before .befor
 
 module _ (c : Turn) (h : c .loop .k < length (ends-given c)) where
   -- the next piece is a block
-  block : Block anyPeriod 2 (word c) (c .loop .before) (end c)
+  block : Block heldPeriod 2 (word c) (c .loop .before) (end c)
   block = next-block (c .loop .inv .2) h
 
   up : c .loop .before < end c
-  up = block-up anyPeriod 2 (word c) (c .loop .before) (end c) block
+  up = block-up heldPeriod 2 (word c) (c .loop .before) (end c) block
 
 mul-end : tie.Need-mul-end Inv-loop μ-loop
 mul-end c = omega arith

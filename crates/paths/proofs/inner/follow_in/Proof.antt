@@ -9,7 +9,7 @@ use borrow.Author.Needs.{needs}
 use borrow.Author.Tests.{not-true, not-false}
 use lib.ListN.{length, getD}
 use Rattle.answers.specs.Outcome.{limit}
-use Rattle.periods.specs.Period.{part, smallestPeriod, anyPeriod}
+use Rattle.periods.specs.Period.{part, smallestPeriod, heldPeriod}
 use Rattle.periods.specs.Edition.{Turns}
 use Rattle.periods.proofs.InPlace.{placed-part}
 use Rattle.periods.proofs.Claims.{part-smallest}
@@ -26,7 +26,7 @@ use Rattle.paths.proofs.inner.follow_in.Tie as tie
 abbrev Inv-loop : tie.InvT-loop
 Inv-loop w turns numbers scratch₀ rows units₀ n count next₀ before₀ k₀ scratch units next before k =
     (k + k ≤ length numbers) × (k ≤ before) × (before ≤ n)
-    × (judgedFrom (segment? anyPeriod turns w numbers) n (endsOfPairs numbers) k before ≡ verdict (segment? anyPeriod turns w numbers) n (endsOfPairs numbers))
+    × (judgedFrom (segment? heldPeriod turns w numbers) n (endsOfPairs numbers) k before ≡ verdict (segment? heldPeriod turns w numbers) n (endsOfPairs numbers))
     × Noted rows count before next scratch × (length scratch ≡ length scratch₀) × (length units ≡ length units₀)
 
 abbrev μ-loop : tie.MeasureT-loop
@@ -46,7 +46,7 @@ abbrev turn-number : Turn → ℕ
 turn-number c = c .before .before .before .before .before .before .before .before .before .before .before .before .before .args .turns
 
 abbrev test : Turn → ℕ → ℕ → ℕ → Bool
-test c = segment? anyPeriod (turn-number c) (word c) (given c)
+test c = segment? heldPeriod (turn-number c) (word c) (given c)
 
 abbrev end : Turn → ℕ
 end c = getD (given c) (c .loop .k + c .loop .k + 1) 0
@@ -102,7 +102,7 @@ loop-holds c =
       omega arith,
       omega arith,
       omega arith,
-      judged-first (segment? anyPeriod (g .turns) (g .w .now) (g .numbers .now)) (length (g .w .now)) (endsOfPairs (g .numbers .now)),
+      judged-first (segment? heldPeriod (g .turns) (g .w .now) (g .numbers .now)) (length (g .w .now)) (endsOfPairs (g .numbers .now)),
       c .before .before .before .before .list-runs .ensures .1,
       refl,
       refl,
@@ -181,12 +181,15 @@ mul-is-segment c = omega arith
 shared-slice-read-is-segment : tie.Need-shared-slice-read-is-segment Inv-loop μ-loop
 shared-slice-read-is-segment c = omega arith
 
+sub-is-segment : tie.Need-sub-is-segment Inv-loop μ-loop
+sub-is-segment c = omega (arith, fits (c .before .before .before .before .before .before .before .before .before .before .before .before))
+
 is-segment-requires : tie.Need-is-segment-requires Inv-loop μ-loop
 is-segment-requires c κs =
     let e = c .before .before .before .before .before .before .before .before .before .before .before .before in
     let t = turn e in
     let u = unit-fits e (c .before .before .before .before .before .before .before .before .before .units .result) (c .before .before .before .before .before .before .before .before .before .units .ensures .0) in
-    (omega (arith, u, fits e, c .before .before .before .before .note .kept .1 .1 .1 .1 .0, scratch-long t, lent t), omega (arith, u, fits e, lent t), omega (arith, t .loop .inv .2, lent t), turns-are t)
+    (omega (arith, u, fits e, c .before .before .before .before .note .kept .1 .1 .1 .1 .0, scratch-long t, lent t), turns-are t)
 
 -- the test of the piece is what the call answers
 tested : (c : tie.After-is-segment Inv-loop μ-loop)
@@ -296,6 +299,7 @@ follow-in-spec =
     add-is-segment
     mul-is-segment
     shared-slice-read-is-segment
+    sub-is-segment
     is-segment-requires
     same-length-4
     same-length-5

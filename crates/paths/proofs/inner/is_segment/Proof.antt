@@ -1,19 +1,20 @@
 -- `paths::inner::is_segment` meets its contract: each way out is what the test says. Assumes nothing.
-use native.Mathlib.Omega.{arith}
-use borrow.Author.Tests.{lt-leb, le-leb}
+use mathlib.Core.Path.{sym, ap, _∙_}
+use mathlib.Core.Bool.{Bool, _&&_}
 use borrow.Author.Needs.{needs}
-use Rattle.periods.proofs.Editions.{turns-below}
+use borrow.Author.Tests.{not-true, not-false}
+use lib.Dec.{eqb}
+use lib.ListN.{getD}
 use Rattle.paths.proofs.inner.is_segment.Statement.{statement}
 use Rattle.paths.proofs.inner.is_segment.Tie as tie
 
-mul-if1 : tie.Need-mul-if1
-mul-if1 c = omega (arith, turns-below (c .args .turns) (c .args .unit) (omega arith, omega arith))
-
-add-if1 : tie.Need-add-if1
-add-if1 c = omega (arith, turns-below (c .args .turns) (c .args .unit) (omega arith, omega arith))
+is-block-of-requires : tie.Need-is-block-of-requires
+is-block-of-requires c κs = search needs
 
 returns : tie.Need-returns
-returns c = simp (lt-leb _ _ (c .if1 .taken))
+returns c =
+    let g = c .before .before .before .args in
+    ap (λ (b : Bool). b && eqb (getD (g .latest .now) (g .unit) 0) (g .run)) (sym (not-true _ (c .if1 .taken)) ∙ c .before .is-block-of .ensures)
 
 mul-result : tie.Need-mul-result
 mul-result c = search needs
@@ -22,8 +23,9 @@ shared-slice-read-result : tie.Need-shared-slice-read-result
 shared-slice-read-result c = search needs
 
 returns-2 : tie.Need-returns-2
-returns-2 c = simp (le-leb _ _ (c .before .if1 .left))
+returns-2 c =
+    let g = c .before .before .before .before .args in
+    ap (λ (b : Bool). b && eqb (getD (g .latest .now) (g .unit) 0) (g .run)) (sym (not-false _ (c .before .if1 .left)) ∙ c .before .before .is-block-of .ensures)
 
 pub is-segment-spec : {M : Type 1} → statement M
-is-segment-spec =
-    tie.close (tie.spec mul-if1 add-if1 returns mul-result shared-slice-read-result returns-2)
+is-segment-spec = tie.close (tie.spec is-block-of-requires returns mul-result shared-slice-read-result returns-2)

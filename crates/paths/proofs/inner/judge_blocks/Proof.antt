@@ -3,7 +3,7 @@
 use mathlib.Core.Path.{sym, ap, _∙_}
 use Prim.Native.Nat.{ℕ}
 use native.Mathlib.Omega.{arith}
-use Rattle.periods.specs.Period.{repetition?, anyPeriod}
+use Rattle.periods.specs.Period.{repetition?, heldPeriod}
 use Rattle.periods.proofs.Editions.{turns-given, edition-by-test, no-edition-by-test}
 use Rattle.factorizer.specs.Judge.{pieceVerdict}
 use Rattle.repetitions.proofs.JudgeClaims.{split-too-long, split-bad-edition, split-judged}
@@ -39,7 +39,7 @@ judge-long-requires c κs = (omega arith, turns-given (c .before .before .before
 returns-4 : tie.Need-returns-4
 returns-4 c =
     let g = c .before .before .before .before .before .before .before .before .args in
-    c .judge-long .ensures ∙ ap (λ (k : ℕ). pieceVerdict (repetition? anyPeriod k) (g .w .now) (g .ends .now)) (c .before .turns .ensures)
+    c .judge-long .ensures ∙ ap (λ (k : ℕ). pieceVerdict (repetition? heldPeriod k) (g .w .now) (g .ends .now)) (c .before .turns .ensures)
     ∙ split-judged (g .w .now) (g .edition) (g .ends .now) (omega arith) (edition-by-test (g .edition) (sym (c .before .before .before .bad-edition .ensures) ∙ c .before .before .if3 .left))
 
 pub judge-blocks-spec : {M : Type 1} → statement M

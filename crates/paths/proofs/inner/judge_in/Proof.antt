@@ -2,26 +2,25 @@
 use mathlib.Core.Path.{_≡_, refl, sym, _∙_}
 use mathlib.Core.Bool.{Bool, false}
 use mathlib.Core.List.{List}
-use Prim.Native.Nat.{ℕ, _+_, _-_, _≤_, _<_}
+use Prim.Native.Nat.{ℕ, _-_, _≤_, _<_}
 use native.Mathlib.Omega.{arith}
 use borrow.Author.Needs.{needs}
+use borrow.Author.Tests.{not-true, not-false}
 use lib.ListN.{length, getD}
-use Rattle.periods.specs.Period.{part, smallestPeriod, repetition?, anyPeriod}
+use Rattle.periods.specs.Period.{repetition?, heldPeriod}
 use Rattle.periods.proofs.InPlace.{placed-part}
-use Rattle.periods.proofs.Claims.{part-smallest}
-use Rattle.periods.proofs.Editions.{turns-below}
 use Rattle.factors.specs.Verdict.{badEnd?}
 use Rattle.factors.proofs.Judging.{end-fits, judgedFrom, judged-first, judged-bad-end, judged-no-block, judged-block, judged-unfinished, judged-finished}
 use Rattle.factorizer.specs.Piece.{piece?}
 use Rattle.factorizer.specs.Judge.{pieceVerdict}
-use Rattle.paths.proofs.NumberLaws.{piece-short, piece-long}
+use Rattle.paths.proofs.NumberLaws.{piece-by-unit}
 use Rattle.paths.proofs.inner.judge_in.Statement.{statement}
 use Rattle.paths.proofs.inner.judge_in.Tie as tie
 
 abbrev Inv-loop : tie.InvT-loop
 Inv-loop w turns ends units₀ n before₀ k₀ units before k =
     (k ≤ before) × (before ≤ n) × (k ≤ length ends)
-    × (judgedFrom (λ m. piece? (repetition? anyPeriod turns) w) n ends k before ≡ pieceVerdict (repetition? anyPeriod turns) w ends)
+    × (judgedFrom (λ m. piece? (repetition? heldPeriod turns) w) n ends k before ≡ pieceVerdict (repetition? heldPeriod turns) w ends)
     × (length units ≡ length units₀)
 
 abbrev μ-loop : tie.MeasureT-loop
@@ -41,7 +40,7 @@ abbrev turn-number : Turn → ℕ
 turn-number c = c .before .before .before .before .args .turns
 
 abbrev test : Turn → ℕ → ℕ → ℕ → Bool
-test c m = piece? (repetition? anyPeriod (turn-number c)) (word c)
+test c m = piece? (repetition? heldPeriod (turn-number c)) (word c)
 
 abbrev end : Turn → ℕ
 end c = getD (ends-given c) (c .loop .k) 0
@@ -59,16 +58,10 @@ in-place c = sym (c .before .bad-end .ensures) ∙ c .if1 .left
 fits : (c : Fits) → (turn c .loop .before < end (turn c)) × (end (turn c) ≤ length (word (turn c)))
 fits c = end-fits (length (word (turn c))) (turn c .loop .before) (end (turn c)) (in-place c)
 
--- the unit of the piece fits into it
-unit-fits : (c : Fits) (u : ℕ) → u ≡ smallestPeriod (part (word (turn c)) (turn c .loop .before) (end (turn c))) → turn c .loop .before + u ≤ end (turn c)
-unit-fits c u e =
-    let t = turn c in
-    omega (arith, e, part-smallest (word t) (t .loop .before) (end t) (fits c .1) (fits c .0) .period .fits)
-
 loop-holds : tie.Need-loop-holds Inv-loop μ-loop
 loop-holds c =
     let g = c .before .before .before .args in
-    (omega arith, omega arith, omega arith, judged-first (λ m. piece? (repetition? anyPeriod (g .turns)) (g .w .now)) (length (g .w .now)) (g .ends .now), refl)
+    (omega arith, omega arith, omega arith, judged-first (λ m. piece? (repetition? heldPeriod (g .turns)) (g .w .now)) (length (g .w .now)) (g .ends .now), refl)
 
 mul-end : tie.Need-mul-end Inv-loop μ-loop
 mul-end c = omega arith
@@ -112,25 +105,34 @@ units-requires c κs =
     let l = placed-part (word t) (t .loop .before) (end t) (fits e .1) .long in
     (omega (arith, l, fits e, t .loop .inv .4), omega (arith, l, fits e))
 
-sub-if2 : tie.Need-sub-if2 Inv-loop μ-loop
-sub-if2 c = omega (arith, fits (c .before .before .before .before .before))
+sub-is-block-of : tie.Need-sub-is-block-of Inv-loop μ-loop
+sub-is-block-of c = omega (arith, fits (c .before .before .before .before .before))
 
-mul-if2 : tie.Need-mul-if2 Inv-loop μ-loop
-mul-if2 c =
-    let e = c .before .before .before .before .before in
-    let u = c .before .before .units in
-    omega (arith, unit-fits e (u .result) (u .ensures .0), fits e, turns-below (turn-number (turn e)) (u .result) (turn e .before .before .before .before .pre .2))
+is-block-of-requires : tie.Need-is-block-of-requires Inv-loop μ-loop
+is-block-of-requires c κs = turn (c .before .before .before .before .before) .before .before .before .before .pre .2
+
+-- once the piece is measured: the test of it is what the call answers
+abbrev Measured : Type 0
+Measured = tie.After-is-block-of Inv-loop μ-loop
+
+abbrev fitted : Measured → Fits
+fitted c = c .before .before .before .before .before .before
+
+tested : (c : Measured) → test (turn (fitted c)) (turn (fitted c) .loop .k) (turn (fitted c) .loop .before) (end (turn (fitted c))) ≡ c .is-block-of .result
+tested c =
+    let e = fitted c in
+    let t = turn e in
+    let u = c .before .before .before .units in
+    piece-by-unit heldPeriod (turn-number t) (word t) (t .loop .before) (end t) (u .result) (fits e .0) (fits e .1) (u .ensures .0) ∙ sym (c .is-block-of .ensures)
 
 same-length-2 : tie.Need-same-length-2 Inv-loop μ-loop
-same-length-2 c = c .before .before .before .units .kept .1 .0 ∙ c .before .before .before .before .before .before .before .before .before .before .loop .inv .4
+same-length-2 c = c .before .before .before .before .units .kept .1 .0 ∙ turn (fitted (c .before)) .loop .inv .4
 
 returns-2 : tie.Need-returns-2 Inv-loop μ-loop
 returns-2 c =
-    let e = c .before .before .before .before .before .before in
+    let e = fitted (c .before) in
     let t = turn e in
-    let u = c .before .before .before .units in
-    judged-no-block (test t) (length (word t)) (ends-given t) (t .loop .k) (t .loop .before) (end t) (omega arith) refl (in-place e)
-    (piece-short (turn-number t) (word t) (t .loop .before) (end t) (u .result) (fits e .0) (fits e .1) (u .ensures .0) (c .if2 .taken)) ∙ t .loop .inv .3
+    judged-no-block (test t) (length (word t)) (ends-given t) (t .loop .k) (t .loop .before) (end t) (omega arith) refl (in-place e) (tested (c .before) ∙ not-true _ (c .if2 .taken)) ∙ t .loop .inv .3
 
 add-k : tie.Need-add-k Inv-loop μ-loop
 add-k c = omega arith
@@ -140,15 +142,13 @@ loop-less c = omega arith
 
 loop-again : tie.Need-loop-again Inv-loop μ-loop
 loop-again c =
-    let e = c .before .before .before .before .before .before in
-    let t = turn e in
-    let u = c .before .before .before .units in (
+    let e = fitted (c .before) in
+    let t = turn e in (
       omega (arith, fits e),
       fits e .1,
       omega arith,
-      judged-block (test t) (length (word t)) (ends-given t) (t .loop .k) (t .loop .before) (end t) (omega arith) refl (in-place e)
-          (piece-long (turn-number t) (word t) (t .loop .before) (end t) (u .result) (fits e .0) (fits e .1) (u .ensures .0) (c .if2 .left)) ∙ t .loop .inv .3,
-      u .kept .1 .0 ∙ t .loop .inv .4,
+      judged-block (test t) (length (word t)) (ends-given t) (t .loop .k) (t .loop .before) (end t) (omega arith) refl (in-place e) (tested (c .before) ∙ not-false _ (c .if2 .left)) ∙ t .loop .inv .3,
+      c .before .before .before .before .units .kept .1 .0 ∙ t .loop .inv .4,
     )
 
 same-length-3 : tie.Need-same-length-3 Inv-loop μ-loop
@@ -189,8 +189,8 @@ judge-in-spec =
     part-units-start
     part-units-end
     units-requires
-    sub-if2
-    mul-if2
+    sub-is-block-of
+    is-block-of-requires
     same-length-2
     returns-2
     add-k

@@ -6,7 +6,7 @@ use Prim.Native.Nat.{ℕ, _+_, _-_, _≤_, _<_}
 use native.Mathlib.Omega.{arith}
 use borrow.Author.Needs.{needs}
 use lib.ListN.{length, getD, take, drop}
-use Rattle.periods.specs.Period.{part, smallestPeriod, anyPeriod}
+use Rattle.periods.specs.Period.{part, smallestPeriod, heldPeriod}
 use Rattle.runs.specs.Number.{runNumber}
 use Rattle.factors.proofs.BlockByBlock.{of-blocks-length, Taken, none-taken, next-block, next-number, one-more-taken}
 use Rattle.repetitions.specs.Block.{Block}
@@ -21,7 +21,7 @@ use Rattle.paths.proofs.inner.numbers_in.Tie as tie
 
 abbrev Inv-loop : tie.InvT-loop
 Inv-loop w ends scratch₀ rows table₀ count next₀ before₀ k₀ scratch table next before k =
-    Taken (Block anyPeriod 2 w) ends (length w) k before × (table ≡ take k (runNumbers w 0 ends) ++ drop k table₀) × Noted rows count before next scratch
+    Taken (Block heldPeriod 2 w) ends (length w) k before × (table ≡ take k (runNumbers w 0 ends) ++ drop k table₀) × Noted rows count before next scratch
     × (length scratch ≡ length scratch₀)
 
 abbrev μ-loop : tie.MeasureT-loop
@@ -62,7 +62,7 @@ long c =
 
 module _ (c : Turn) (h : c .loop .k < length (ends-given c)) where
   -- the next piece is a block
-  block : Block anyPeriod 2 (word c) (c .loop .before) (end c)
+  block : Block heldPeriod 2 (word c) (c .loop .before) (end c)
   block = next-block (c .loop .inv .0) h
 
   -- and its unit stands in the table
@@ -73,7 +73,7 @@ module _ (c : Turn) (h : c .loop .k < length (ends-given c)) where
       ∙ unit-there (word c) (ends-given c) (table-lent c) (c .loop .before) (c .loop .k) (c .loop .inv .0) h (c .before .before .before .before .before .before .before .before .before .before .before .before .before .pre .1)
 
   fits : c .loop .before + getD (c .loop .table) (c .loop .k) 0 ≤ end c
-  fits = block-unit anyPeriod 2 (word c) (c .loop .before) (end c) block (getD (c .loop .table) (c .loop .k) 0) unit .1
+  fits = block-unit heldPeriod 2 (word c) (c .loop .before) (end c) block (getD (c .loop .table) (c .loop .k) 0) unit .1
 
 list-runs-requires : tie.Need-list-runs-requires Inv-loop μ-loop
 list-runs-requires c κs = search needs
@@ -85,7 +85,7 @@ note-requires : tie.Need-note-requires Inv-loop μ-loop
 note-requires c κs =
     let t = c .before .before .before in
     let K = block t (omega arith) in
-    (readable t, omega (arith, block-up anyPeriod 2 (word t) (t .loop .before) (end t) K, K .0), t .loop .inv .2)
+    (readable t, omega (arith, block-up heldPeriod 2 (word t) (t .loop .before) (end t) K, K .0), t .loop .inv .2)
 
 mul-unit : tie.Need-mul-unit Inv-loop μ-loop
 mul-unit c = omega arith
@@ -132,11 +132,11 @@ loop-again c =
     let u = getD (t .loop .table) (t .loop .k) 0 in
     let K = block t (omega arith) in
     let inside : u < length (n .last .1 .1 .1 .1 .0) = omega (arith, fits t (omega arith), K .0, n .kept .1 .1 .1 .1 .0, t .loop .inv .3, places t) in
-    let number = noted-latest (word t) _ _ _ (t .loop .before) _ _ (t .before .before .before .before .before .list-runs .ensures .0) (n .ensures .0) (n .ensures .1) u inside ∙ block-latest (word t) (t .loop .before) (end t) u K (unit t (omega arith)) in (
+    let number = noted-latest (word t) _ _ _ (t .loop .before) _ _ (t .before .before .before .before .before .list-runs .ensures .0) (n .ensures .0) (n .ensures .1) u inside ∙ block-latest heldPeriod (word t) (t .loop .before) (end t) u K (unit t (omega arith)) in (
       one-more-taken (t .loop .inv .0) (omega arith),
       written-more (table-lent t) (runNumbers (word t) 0 (ends-given t)) (room t) (t .loop .k) (t .loop .table) (t .loop .inv .1) _
           (omega (arith, of-blocks-length (runNumber (word t)) 0 (ends-given t))) (number ∙ sym (next-number (t .loop .inv .0) (omega arith) (runNumber (word t)))),
-      noted-later _ _ _ _ _ _ (omega (arith, block-up anyPeriod 2 (word t) (t .loop .before) (end t) K)) (n .ensures .0),
+      noted-later _ _ _ _ _ _ (omega (arith, block-up heldPeriod 2 (word t) (t .loop .before) (end t) K)) (n .ensures .0),
       n .kept .1 .1 .1 .1 .0 ∙ t .loop .inv .3,
     )
 

@@ -4,7 +4,7 @@ use mathlib.Core.List.{List, _++_}
 use Prim.Native.Nat.{ℕ, _-_, _≤_, _<_}
 use native.Mathlib.Omega.{arith}
 use lib.ListN.{length, getD, take, drop}
-use Rattle.periods.specs.Period.{part, smallestPeriod, anyPeriod}
+use Rattle.periods.specs.Period.{part, smallestPeriod, heldPeriod}
 use Rattle.periods.proofs.InPlace.{placed-part}
 use Rattle.factors.proofs.BlockByBlock.{of-blocks-length, Taken, none-taken, next-block, next-number, one-more-taken}
 use Rattle.repetitions.specs.Block.{Block}
@@ -15,7 +15,7 @@ use Rattle.paths.proofs.inner.units_in.Statement.{statement}
 use Rattle.paths.proofs.inner.units_in.Tie as tie
 
 abbrev Inv-loop : tie.InvT-loop
-Inv-loop w ends units₀ table₀ before₀ k₀ units table before k = Taken (Block anyPeriod 2 w) ends (length w) k before × (table ≡ take k (blockUnits w 0 ends) ++ drop k table₀) × (length units ≡ length units₀)
+Inv-loop w ends units₀ table₀ before₀ k₀ units table before k = Taken (Block heldPeriod 2 w) ends (length w) k before × (table ≡ take k (blockUnits w 0 ends) ++ drop k table₀) × (length units ≡ length units₀)
 
 abbrev μ-loop : tie.MeasureT-loop
 μ-loop w ends units₀ table₀ before₀ k₀ units table before k = length ends - k
@@ -49,11 +49,11 @@ long c =
     (omega (arith, of-blocks-length (unit-of c) 0 (ends-given c), c .loop .inv .0 .within))
 
 -- the next piece is a block
-block : (c : Turn) → c .loop .k < length (ends-given c) → Block anyPeriod 2 (word c) (c .loop .before) (end c)
+block : (c : Turn) → c .loop .k < length (ends-given c) → Block heldPeriod 2 (word c) (c .loop .before) (end c)
 block c h = next-block (c .loop .inv .0) h
 
 up : (c : Turn) → c .loop .k < length (ends-given c) → c .loop .before < end c
-up c h = block-up anyPeriod 2 (word c) (c .loop .before) (end c) (block c h)
+up c h = block-up heldPeriod 2 (word c) (c .loop .before) (end c) (block c h)
 
 loop-holds : tie.Need-loop-holds Inv-loop μ-loop
 loop-holds c = (none-taken (c .before .before .before .before .pre .0 .1), refl, refl)
@@ -88,7 +88,7 @@ cast-table c =
     let t = c .before .before .before .before .before .before .before in
     let K = block t (omega arith) in
     let u = c .before .before .units in
-    omega (arith, block-unit anyPeriod 2 (word t) (t .loop .before) (end t) K (u .result) (u .ensures .0), K .0)
+    omega (arith, block-unit heldPeriod 2 (word t) (t .loop .before) (end t) K (u .result) (u .ensures .0), K .0)
 
 mul-table : tie.Need-mul-table Inv-loop μ-loop
 mul-table c = omega arith

@@ -5,7 +5,7 @@ use mathlib.Core.List.{[]}
 use Prim.Native.Nat.{_+_, _-_, _≤_}
 use native.Mathlib.Omega.{arith}
 use lib.ListN.{length, getD, drop}
-use Rattle.periods.specs.Period.{anyPeriod}
+use Rattle.periods.specs.Period.{heldPeriod}
 use Rattle.factors.proofs.BlockByBlock.{Taken, none-taken, next-block, one-more-taken, text-more, text-done}
 use Rattle.repetitions.specs.Block.{Block}
 use Rattle.repetitions.proofs.Blocks.{block-up, edition-half}
@@ -17,7 +17,7 @@ use Rattle.report.proofs.inner.block_lines.Tie as tie
 
 abbrev Inv-loop : tie.InvT-loop
 Inv-loop w ends runs count out₀ at next₀ before₀ k₀ out next before k =
-    (k ≤ before) × (length out ≡ length out₀) × Taken (Block anyPeriod printedTurns w) ends (length w) k before × Left out₀ next₀ (blockLines w 0 0 ends) out next (blockLines w k before (drop k ends))
+    (k ≤ before) × (length out ≡ length out₀) × Taken (Block heldPeriod printedTurns w) ends (length w) k before × Left out₀ next₀ (blockLines w 0 0 ends) out next (blockLines w k before (drop k ends))
 
 abbrev μ-loop : tie.MeasureT-loop
 μ-loop w ends runs count out₀ at next₀ before₀ k₀ out next before k = length ends - k
@@ -55,7 +55,7 @@ loop-again c =
     let l = c .before .before .before .before .before .before .loop in
     let w = g .w .now in
     let end = getD (g .ends .now) (l .k) 0 in
-    let up = block-up anyPeriod printedTurns w (l .before) end (next-block (l .inv .2) (omega arith)) in
+    let up = block-up heldPeriod printedTurns w (l .before) end (next-block (l .inv .2) (omega arith)) in
     let S = stored (l .out) (l .next) (blockLine w (l .k + 1) (l .before) end) _ _ (c .before .before .block-line .ensures) in (
       omega arith,
       stored-length S ∙ l .inv .1,
