@@ -235,7 +235,8 @@ uint32_t cegridom_best_split(const uint8_t *word, size_t n, uint32_t edition, ui
  * 0 to n, CEGRIDOM_NONE where the prefix has no split into squares, and 0 in the following
  * 3 x (n+1); after an answer and after refusals 2 and 7 alike. After 1, 8 and 9 it keeps its
  * contents. Places past 4 x (n+1) never change.
- * Time at most quadratic in n; 350 bytes of stack and 48 a square of the split, 97 KiB at most.
+ * Time that of runs, and a step for each run and each symbol in it; 67 KiB of stack and 48 bytes a
+ * square of the split, 161 KiB at most.
  */
 uint32_t cegridom_best_squares(const uint8_t *word, size_t n, uint32_t choice, uint32_t *ends,
                                size_t end_places, uint32_t *work, size_t work_places,

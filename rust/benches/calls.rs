@@ -357,6 +357,7 @@ fn twin_squares(input: &Input, b: &mut Buffers, choice: Choice) -> Answer {
     twin::best_squares(w, choice, &mut b.table, &mut b.work).map(|v| padded([v]))
 }
 
+const SQUARES: &str = "best squares";
 const PATH: &str = "path of a split";
 const PAGE: &str = "write a page";
 const WHICH: &str = "which first";
@@ -847,7 +848,7 @@ fn time(calls: impl Iterator<Item = &'static Call>) {
         let named = rows.iter().filter(|row| row.call.starts_with(name));
         greatest(named.map(Row::longest)) * MILLI
     };
-    let by_runs = ["runs", "nodes", PATH, "judge a path"];
+    let by_runs = ["runs", "nodes", PATH, "judge a path", SQUARES];
     for name in by_runs {
         let named = || rows.iter().filter(|row| row.call.starts_with(name));
         if named().next().is_some() {
@@ -873,7 +874,7 @@ fn time(calls: impl Iterator<Item = &'static Call>) {
         greatest(rows.iter().map(Row::growth)),
         greatest(rows.iter().filter_map(|row| row.to_first)),
         slowest("best split"),
-        slowest("best squares")
+        slowest(SQUARES)
     );
     for row in rows.iter().filter(|row| row.ratio() > MOST_RATIO) {
         let (call, word, ratio) = (row.call, &row.word, row.ratio());

@@ -306,8 +306,9 @@ pub fn best_split_into(
 /// splits of that size it is the one whose last square is longest, then the one before it, and so
 /// on. A word of odd length has none.
 ///
-/// Refusals: 1, 9, 2, 7. [`most_ends`](crate::most_ends) places for the ends never get 7. Time at
-/// most quadratic in the length; 48 bytes of stack a square of the split, 97 KiB at most.
+/// Refusals: 1, 9, 2, 7. [`most_ends`](crate::most_ends) places for the ends never get 7. Time
+/// that of [`runs_into`], and a step for each run and each symbol in it; 67 KiB of stack and 48 bytes
+/// a square of the split, 161 KiB at most.
 ///
 /// The working table needs [`work_places`](crate::work_places) places, and those past them never
 /// change. After an answer, and after 2 and 7 too, its first `n + 1` places hold the best size of

@@ -45,7 +45,7 @@
 //! [`work_places`], [`page_bytes`] and [`plan_bytes`] give sizes that suffice.
 //!
 //! No call keeps state, so any number of threads may call at once. What the archive takes of the
-//! stack is said in the text of each function, 147 KiB at most; where nothing is said, it is under
+//! stack is said in the text of each function, 161 KiB at most; where nothing is said, it is under
 //! 450 bytes.
 //!
 //! # What is proved

@@ -214,8 +214,8 @@ pub fn best_sizes(
 /// not be primitive. Of the splits of that size it is the one whose last square is longest, then the
 /// one before it, and so on. A word of odd length has none.
 ///
-/// Refusals: 1, 2. Allocates [`most_ends`] and [`work_places`] numbers while it works; 48 bytes of
-/// stack a square of the split, 97 KiB at most.
+/// Refusals: 1, 2. Allocates [`most_ends`] and [`work_places`] numbers while it works; 67 KiB of
+/// stack and 48 bytes a square of the split, 161 KiB at most.
 ///
 /// ```
 /// use cegridom::{best_squares, Choice, Refusal};

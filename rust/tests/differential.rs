@@ -8,7 +8,7 @@ mod words;
 
 use cegridom::{raw, Choice, Edition, Refusal, Step, Which};
 use reference::Outcome::{self, Accepted, Refused};
-use reference::{Best, Rule, Run, EDITIONS, LIMIT, RUN_PLACES, UNIT_MEMORY};
+use reference::{Best, Rule, Run, EDITIONS, LIMIT, NONE, RUN_PLACES, UNIT_MEMORY};
 use words::{every_word, fibonacci, last_differs, thue_morse};
 
 /// What stands in a value before a call, and beside a table.
@@ -732,6 +732,21 @@ impl Numbers {
         }
     }
 
+    /// At most so many symbols, of two, in which powers stand inside powers: a unit wound some times,
+    /// up to three symbols more, all of it wound again, and so on.
+    fn nested(&mut self, longest: usize) -> Vec<u8> {
+        let span = 1 + self.below(3);
+        let mut word = self.word(span, 2);
+        loop {
+            let wound = word.repeat(2 + self.below(7));
+            let rest = self.below(4);
+            if wound.len() + rest > longest {
+                return word;
+            }
+            word = [wound, self.word(rest, 2)].concat();
+        }
+    }
+
     /// The same ends but for one, which is changed, left out or doubled.
     fn damaged(&mut self, ends: &[u32]) -> Vec<u32> {
         let mut near = ends.to_vec();
@@ -824,8 +839,8 @@ fn follows_the_definitions(w: &[u8], runs: &[Run], rule: Rule, bests: [Best; 2])
 
 /// Longer ones than for blocks, since few of the short ones have a split into squares.
 fn every_word_for_squares(mut with: impl FnMut(&[u8])) {
-    every_word(2, 12, &mut with);
-    every_word(3, 8, &mut with);
+    every_word(2, 14, &mut with);
+    every_word(3, 9, &mut with);
 }
 
 #[test]
@@ -1127,6 +1142,125 @@ fn long_squares(checker: &mut Checker, numbers: &mut Numbers, w: &[u8], ends: &[
         }
         checker.judge_squares(w, &ends[..ends.len() - 1]);
     }
+}
+
+/// Words of at most so many symbols in which powers stand inside powers: a unit wound some times and
+/// a rest, all of it wound again with another rest, and the whole once more. Where turns are 4 and
+/// more, what was kept of runs of several units is read again at one boundary.
+fn powers_inside_powers(longest: usize) -> Vec<Vec<u8>> {
+    const TURNS: [[usize; 3]; 9] = [
+        [4, 4, 4],
+        [6, 6, 6],
+        [6, 8, 3],
+        [8, 8, 2],
+        [5, 9, 3],
+        [12, 2, 7],
+        [2, 6, 8],
+        [3, 3, 12],
+        [20, 10, 1],
+    ];
+    const RESTS: [[&[u8]; 2]; 4] = [[b"b", b"c"], [b"a", b"b"], [b"ba", b"a"], [b"cc", b"abab"]];
+    let mut words = Vec::new();
+    for unit in [&b"a"[..], b"ab", b"aab", b"abaab"] {
+        for [inner, middle, outer] in TURNS {
+            for [first, second] in RESTS {
+                let power = unit.repeat(inner);
+                let powers = [&power, first].concat().repeat(middle);
+                words.push([&powers, second].concat().repeat(outer));
+                words.push(powers);
+                words.push(power);
+            }
+        }
+    }
+    words.sort();
+    words.dedup();
+    words.retain(|w| w.len() <= longest);
+    words
+}
+
+/// The best splits of a word into squares, and of its longest prefixes that have one: of the word alone
+/// each call hands over the ends, of its prefixes only the sizes.
+fn squares_of_prefixes(checker: &mut Checker, w: &[u8]) {
+    let known = Squared::of(w);
+    for choice in [1, 2] {
+        checker.squares_sizes(&known, choice);
+    }
+    let sizes = &known.best(1).0;
+    let split = (0..w.len()).rev().filter(|&m| sizes[m] != NONE);
+    for m in split.take(8) {
+        let known = Squared::of(&w[..m]);
+        for choice in [1, 2] {
+            checker.best_squares(&known, choice, m / 2, 4 * (m + 1));
+        }
+    }
+}
+
+/// Runs of many units inside others, alone, beside other symbols, and cut at another symbol: what is
+/// kept of one run must neither be lost nor be taken for that of another.
+#[test]
+fn squares_of_powers_of_powers() {
+    let mut checker = Checker::default();
+    let mut numbers = Numbers(1_640_531_527);
+    for (turn, w) in powers_inside_powers(600).into_iter().enumerate() {
+        squares_of_prefixes(&mut checker, &w);
+        squares_of_prefixes(&mut checker, &beside(&mut numbers, turn, &w));
+        let (front, back) = w.split_at(numbers.below(w.len()));
+        squares_of_prefixes(&mut checker, &[back, front].concat());
+    }
+    for longest in [30, 60, 120, 300, 600] {
+        for turn in 0..300 {
+            let w = numbers.nested(longest);
+            squares_of_prefixes(&mut checker, &beside(&mut numbers, turn, &w));
+        }
+    }
+    checker.report("squares of powers of powers");
+}
+
+/// Many runs over each position: Fibonacci and run-rich words of many lengths. And squares joined,
+/// all of them wound, with others after them: many starts of equal sizes.
+#[test]
+fn squares_of_words_rich_in_runs() {
+    let mut checker = Checker::default();
+    let mut numbers = Numbers(4_101_842_887);
+    for n in (30..130).chain((130..=600).step_by(10)) {
+        for w in [fibonacci(n), run_rich(n)] {
+            squares_of_prefixes(&mut checker, &w);
+            squares_of_prefixes(&mut checker, &beside(&mut numbers, n, &w));
+        }
+    }
+    for n in [10, 20, 40, 80] {
+        for longest in 1..=4 {
+            for _ in 0..50 {
+                let (w, _) = numbers.squares(n, longest, 2);
+                let (other, _) = numbers.squares(n, longest, 2);
+                let power = w.repeat(2 + numbers.below(6));
+                squares_of_prefixes(&mut checker, &[power, other, w].concat());
+            }
+        }
+    }
+    checker.report("squares of words rich in runs");
+}
+
+/// Long powers of short units with one symbol changed, at each of several places: a run ends there,
+/// and nothing that was kept of it may serve the one of the same unit that starts after it.
+#[test]
+fn squares_of_changed_powers() {
+    let mut checker = Checker::default();
+    for unit in [&b"a"[..], b"ab", b"aab", b"abaab", b"aaaab"] {
+        for length in [36, 75, 140, 300, 600] {
+            let w = wound(unit, length);
+            squares_of_prefixes(&mut checker, &w);
+            for at in (0..length).step_by(length / 18) {
+                // to the other symbol, and to one that stands nowhere else
+                for change in [b'a' ^ b'b', b'a'] {
+                    let mut changed = w.clone();
+                    changed[at] ^= change;
+                    squares_of_prefixes(&mut checker, &changed);
+                }
+            }
+        }
+    }
+    checker.report("squares of changed powers");
 }
 
 fn all_known(words: &[Vec<u8>]) -> Vec<Known<'_>> {

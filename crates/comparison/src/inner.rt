@@ -42,7 +42,7 @@ fn measure(w: &[u8], edition: u32, work: &mut [u32]) -> Measured
     ensures { λ r. ⌜ (r .size ≡ fewestSize (turnsOf edition) (now (w .entry))) × (r .end ≡ firstEnd (turnsOf edition) (now (w .entry))) ⌝ }
     ensures { λ _. ⌜ now (work .exit) ≡ filled smallest (block? heldPeriod (turnsOf edition) (now (w .entry))) (length (now (w .entry))) (now (work .entry)) ⌝ }
 {
-    factorizer::inner::fill(w, factorizer::rule_of(edition), factors::FEWEST, work);
+    factorizer::inner::fill(w, periods::turns(edition), factors::FEWEST, work);
     read_off(work, w.len())
 }
 

@@ -20,8 +20,6 @@ use Rattle.factors.specs.Table.{none, rows, sizeIn, sizes}
 use Rattle.factors.proofs.Optimal.{Answers, best-factorization, size-bound}
 use Rattle.factors.proofs.TableLaws.{length-sizes, sizes-at}
 use Rattle.factorizer.specs.Piece.{Piece, piece?, Decides}
-use Rattle.factorizer.specs.declared.Rule.{Rule}
-use Rattle.factorizer.specs.Rule.{blockBy}
 use Rattle.factorizer.specs.Best.{sizeOutcome, sizeEnds, wholeCell, settledEnds, settledWork, tested, chosenOutcome, chosenEnds, chosenWork, Reported, unsplittable, best, Answered, no-split, too-few, written, Settled, Chosen, bad-choice, short-table, settled}
 use Rattle.factorizer.proofs.Pieces.{piece-sound, piece-complete, piece-test-up, prefix-factorizations}
 
@@ -88,6 +86,16 @@ module _ (p : List ℕ → Bool) (w : List ℕ) (choice : ℕ) (e t : List ℕ) 
     pub ends : x ≡ chosenEnds p w choice e t
     pub work : y ≡ chosenWork p w choice t
 
+  -- as a call ensures them
+  abbrev pub Ensured : Outcome → List ℕ → List ℕ → Type 0
+  Ensured o x y = (o ≡ chosenOutcome p w choice e t) × ((x ≡ chosenEnds p w choice e t) × (y ≡ chosenWork p w choice t))
+
+  pub chosen-ensured : (o : Outcome) (x y : List ℕ) → ChosenGiven o x y → Ensured o x y
+  chosen-ensured o x y G = (G .answer, (G .ends, G .work))
+
+  pub chosen-given : (o : Outcome) (x y : List ℕ) → Ensured o x y → ChosenGiven o x y
+  chosen-given o x y E = record { answer = E .0; ends = E .1 .0; work = E .1 .1 }
+
   pub chosen-bad-choice : (OneOrTwo choice → ⊥) → ChosenGiven (refused 8 0) e t
   unfolding chosenOutcome chosenEnds chosenWork
   chosen-bad-choice x = record {
@@ -111,6 +119,11 @@ module _ (p : List ℕ → Bool) (w : List ℕ) (choice : ℕ) (e t : List ℕ) 
     ends = sym (tested-fine (length w) choice (length t) _ _ _ x k);
     work = sym (tested-fine (length w) choice (length t) _ _ _ x k);
   }
+
+  -- the same of an answer and tables that are so
+  pub settled-ensured : OneOrTwo choice → rows * (length w + 1) ≤ length t → (o : Outcome) (x y : List ℕ)
+      → (o ≡ sizeOutcome (wholeCell p w choice) (length e)) × ((x ≡ settledEnds p w choice e) × (y ≡ settledWork p w choice t)) → Ensured o x y
+  settled-ensured i k o x y E = let G = chosen-settled i k in (E .0 ∙ G .answer, (E .1 .0 ∙ G .ends, E .1 .1 ∙ G .work))
 
 module _ (P : List ℕ → Type 0) (p : List ℕ → Bool) (D : Decides P p) (w : List ℕ) (choice : ℕ) (e t : List ℕ) where
   -- the tables after an answer, 2 and 7
@@ -185,8 +198,3 @@ module _ (P : List ℕ → Type 0) (w : List ℕ) (choice : ℕ) (e t : List ℕ
   chosen-suffice o x y (bad-choice n f g h) i z = omega (arith, refused-number o 8 7 0 i f z)
   chosen-suffice o x y (short-table c l f g h) i z = omega (arith, refused-number o 9 7 0 i f z)
   chosen-suffice o x y (settled c l S) i z = answered-suffice (getD y (length w) 0) o x (S .answered) i z
-
--- what `factorizer::inner::best` ensures of a rule r is what is promised of the rule that it is
-pub given-by-rule : (r s : Rule) → r ≡ s → (w : List ℕ) (choice : ℕ) (e t : List ℕ) (o : Outcome) (x y : List ℕ)
-    → (o ≡ chosenOutcome (blockBy r) w choice e t) × ((x ≡ chosenEnds (blockBy r) w choice e t) × (y ≡ chosenWork (blockBy r) w choice t)) → ChosenGiven (blockBy s) w choice e t o x y
-given-by-rule r s q w choice e t o x y h = subst (λ (z : Rule). ChosenGiven (blockBy z) w choice e t o x y) q record { answer = h .0; ends = h .1 .0; work = h .1 .1 }

@@ -1,19 +1,20 @@
 -- Laws for filling the working table: the units of a window in row 2, the table at the start and at the end. The general part is factors/proofs/Filling.antt;
--- here the blocks are those of a rule. Assumes nothing.
+-- here the blocks are repetitions. Assumes nothing.
 use mathlib.Core.Path.{_≡_, refl, sym, ap, _∙_}
 use mathlib.Core.Bool.{Bool}
 use mathlib.Core.List.{List, _++_, append-assoc}
 use Prim.Native.Nat.{ℕ, _+_, _-_, _*_, _≤_, _<_}
 use native.Mathlib.Omega.{arith}
 use borrow.Author.Tests.{le-leb}
+use lib.Dec.{leb}
 use lib.ListN.{length, getD, take, drop, replicate, length-take, length-drop, length-replicate, getD-replicate}
 use lib.Seq.{drop-drop}
 use Rattle.answers.specs.Outcome.{limit}
-use Rattle.periods.specs.Period.{part, smallestPeriod, unitsTable}
-use Rattle.periods.specs.Edition.{Edition}
+use Rattle.periods.specs.Period.{part, smallestPeriod, repetition?, heldPeriod, unitsTable}
+use Rattle.periods.specs.Edition.{Edition, Turns}
 use Rattle.periods.specs.Part.{partTable}
 use Rattle.periods.proofs.InPlace.{placed-part}
-use Rattle.periods.proofs.Claims.{part-smallest, part-periods-rise}
+use Rattle.periods.proofs.Claims.{part-periods-rise}
 use Rattle.periods.proofs.UnitsTable.{units-length, units-of-part}
 use Rattle.periods.proofs.PartClaims.{part-described}
 use Rattle.factors.specs.Factorization.{Choice, cell}
@@ -22,10 +23,9 @@ use Rattle.factors.proofs.TableLaws.{length-started, started-drop}
 use Rattle.factors.proofs.Lent.{lent, lent-length, lent-below, lent-within, lent-rest}
 use Rattle.factors.proofs.Filling.{rows-of-cells}
 use Rattle.factorizer.specs.Piece.{piece?}
-use Rattle.factorizer.specs.Rule.{Ruled, kind?, spanTest}
 use Rattle.factorizer.specs.Fill.{unitAt, UnitsRise, endsBlock}
 use Rattle.factorizer.specs.Window.{windowOf, RestKept}
-use Rattle.factorizer.proofs.Rules.{kind-by-unit}
+use Rattle.factorizer.proofs.Rules.{block-by-unit}
 
 -- where rows 2 and 3 start, and where they end
 abbrev pub second : ℕ → ℕ
@@ -96,20 +96,18 @@ module _ (w : List ℕ) (j e : ℕ) (t : List ℕ) (inside : e ≤ length w) (ro
       ∙ rw y at (units-of-part w (rowTwo w t) j (j + (d + 1)) e (omega arith) (omega arith) inside)
 
   pub laid-rises : UnitsRise (length w) (e - j) (laid w j e t)
-  laid-rises = (
-    (λ d h. omega (arith, laid-unit d (omega arith), part-smallest w j (j + (d + 1)) (omega arith) (omega arith) .period .positive)),
-    (λ d f h l. omega (arith, laid-unit d (omega arith), laid-unit f (omega arith), part-periods-rise w j (j + (d + 1)) (j + (f + 1)) (omega arith) (omega arith) (omega arith))),
-  )
+  laid-rises d f h l =
+      omega (arith, laid-unit d (omega arith), laid-unit f (omega arith), part-periods-rise w j (j + (d + 1)) (j + (f + 1)) (omega arith) (omega arith) (omega arith))
 
   -- within a window the test of the units decides where a block ends
-  pub laid-decides : (square : Bool) (k : ℕ) → Ruled square k → (d : ℕ) → j + d < e → d < windowOf square k
-      → endsBlock square k (length w) (laid w j e t) d ≡ piece? (kind? square k) w j (j + (d + 1))
-  laid-decides square k R d h near =
+  pub laid-decides : (k : ℕ) → Turns k → (d : ℕ) → j + d < e → d < windowOf k
+      → endsBlock k (length w) (laid w j e t) d ≡ piece? (repetition? heldPeriod k) w j (j + (d + 1))
+  laid-decides k turns d h near =
       let s = part w j (j + (d + 1)) in
       let l : length s ≡ d + 1 = placed-part w j (j + (d + 1)) (omega arith) .long ∙ omega arith in
-      ap (λ (x : ℕ). spanTest square (d + 1) (k * x)) (laid-unit d h)
-      ∙ ap (λ (x : ℕ). spanTest square x (k * smallestPeriod s)) (sym l)
-      ∙ kind-by-unit square k R s (omega (arith, l)) (omega (arith, l))
+      ap (λ (x : ℕ). leb (k * x) (d + 1)) (laid-unit d h)
+      ∙ ap (λ (x : ℕ). leb (k * smallestPeriod s) x) (sym l)
+      ∙ block-by-unit k turns s (omega (arith, l)) (omega (arith, l))
       ∙ rw (le-leb (j + (d + 1)) (length w) (omega arith)) refl
 
 -- a table whose row 0 is started and whose row 1 is cleared

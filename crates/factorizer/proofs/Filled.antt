@@ -7,16 +7,17 @@ use Prim.Native.Nat.{ℕ, _+_, _-_, _*_, _≤_, _<_}
 use native.Mathlib.Omega.{arith}
 use borrow.Author.Tests.{ne-eqb}
 use lib.Dec.{ltb, eqb}
-use lib.ListN.{length, getD, take, drop, replicate, length-append, length-drop, length-replicate, replicate-append-replicate, List·getD-append}
+use lib.ListN.{length, getD, take, drop, replicate, length-append, length-take, length-drop, length-replicate, replicate-append-replicate, List·getD-append}
 use lib.Seq.{take-at, drop-at, drop-append-add, drop-drop}
-use Rattle.answers.specs.Outcome.{limit}
-use Rattle.factors.specs.Factorization.{Choice, Cell, unreachable, reached, cell, bestEnds}
+use Rattle.answers.specs.Outcome.{Outcome, limit}
+use Rattle.factors.specs.Factorization.{Choice, choiceOf, Cell, unreachable, reached, cell, bestEnds}
 use Rattle.factors.specs.Table.{none, rows, sizeIn, sizes, previous, filled, endsBack, Linked}
 use Rattle.factors.proofs.Optimal.{size-bound}
 use Rattle.factors.proofs.TableLaws.{length-sizes, length-previous, sizes-at, previous-agrees, linked, ends-back}
 use Rattle.factors.proofs.Lent.{lent}
-use Rattle.factorizer.specs.Fill.{rowOne, Readable, handedOutcome, handedEnds}
-use Rattle.factorizer.specs.Best.{sizeOutcome, sizeEnds}
+use Rattle.factorizer.specs.Piece.{piece?}
+use Rattle.factorizer.specs.Fill.{rowOne, Readable, handedOutcome, handedEnds, clearedRow}
+use Rattle.factorizer.specs.Best.{sizeOutcome, sizeEnds, wholeCell, settledEnds, settledWork}
 use Rattle.factorizer.proofs.FillLaws.{second, zeros}
 
 module _ (c : Choice) (b : ℕ → ℕ → Bool) (n : ℕ) (t : List ℕ) where
@@ -62,19 +63,16 @@ module _ (c : Choice) (b : ℕ → ℕ → Bool) (n : ℕ) (t : List ℕ) where
       ∙ ap (λ (x : ℕ). drop x t) f
 
   -- the row of previous boundaries cleared
-  pub filled-cleared : rows * (n + 1) ≤ length t
-      → lent (filled c b n t) (n + 1) (second n) (zeros (filled c b n t) (n + 1) (second n)) ≡ sizes c b n ++ (replicate (3 * (n + 1)) 0 ++ drop (rows * (n + 1)) t)
-  filled-cleared h =
-      let e : second n - (n + 1) ≡ n + 1 = omega arith in
+  pub filled-cleared : clearedRow n (filled c b n t) ≡ sizes c b n ++ (replicate (3 * (n + 1)) 0 ++ drop (rows * (n + 1)) t)
+  filled-cleared =
       let S = sizes c b n in
       let P = previous c b n in
       let R = replicate (2 * (n + 1)) 0 ++ drop (rows * (n + 1)) t in
-      let f : drop (n + 1) (S ++ (P ++ R)) ≡ P ++ R = drop-at S (P ++ R) (n + 1) (length-sizes c b n ∙ omega arith) in
-      let g : take (n + 1) (P ++ R) ≡ P = take-at P R (n + 1) (length-previous c b n ∙ omega arith) in
+      let e : n + 1 + (n + 1) ≡ length S + (n + 1) = omega (arith, length-sizes c b n) in
       let k : drop (n + 1) (P ++ R) ≡ R = drop-at P R (n + 1) (length-previous c b n ∙ omega arith) in
       let z : n + 1 + 2 * (n + 1) ≡ 3 * (n + 1) = omega arith in
-      let l : length P ≡ n + 1 = length-previous c b n ∙ omega arith in
-      rw (e, f, g, k, l, take-at S (P ++ R) (n + 1) (length-sizes c b n ∙ omega arith))
+      let d : drop (n + 1 + (n + 1)) (S ++ (P ++ R)) ≡ R = ap (λ (x : ℕ). drop x (S ++ (P ++ R))) e ∙ drop-append-add S (P ++ R) (n + 1) ∙ k in
+      rw (take-at S (P ++ R) (n + 1) (length-sizes c b n ∙ omega arith), d)
       (ap (λ (x : List ℕ). S ++ x)
       (sym (append-assoc (replicate (n + 1) 0) (replicate (2 * (n + 1)) 0) (drop (rows * (n + 1)) t))
       ∙ ap (λ (x : List ℕ). x ++ drop (rows * (n + 1)) t) (replicate-append-replicate (n + 1) (2 * (n + 1)) 0 ∙ ap (λ (x : ℕ). replicate x 0) z)))
@@ -110,17 +108,32 @@ module _ (c : Choice) (b : ℕ → ℕ → Bool) (n : ℕ) (t : List ℕ) where
             ends-back c b (previous c b n) n (omega (arith, length-previous c b n)) (previous-agrees c b n) s p f,
           ) refl
 
-  -- the same of a table r that is filled, with its row 1 cleared to z
-  module _ (r : List ℕ) (is : r ≡ filled c b n t) (h : n < none) where
-    pub given-readable : n ≤ limit → rows * (n + 1) ≤ length t → Readable n r
-    given-readable small room = (small, omega (arith, ap length is, filled-long room), rw is (filled-linked h))
+-- `clear` of row 1
+pub row-cleared : (n : ℕ) (t z : List ℕ) → second n ≤ length t → z ≡ zeros t (n + 1) (second n) → lent t (n + 1) (second n) z ≡ clearedRow n t
+row-cleared n t z h f =
+    let e : second n - (n + 1) ≡ n + 1 = omega arith in
+    let l : length (take (n + 1) (drop (n + 1) t)) ≡ n + 1 = length-take (n + 1) (drop (n + 1) t) ∙ omega (arith, length-drop (n + 1) t) in
+    rw (f, e, l, drop-drop (n + 1) (n + 1) t) refl
 
-    pub given-outcome : (places : ℕ) → handedOutcome (getD r n 0) places ≡ sizeOutcome (cell c b n) places
-    given-outcome = rw is (filled-outcome h)
+-- `factorizer::inner::finish` on a table x that is filled for the pieces of a word; p is the test of a piece
+module _ (p : List ℕ → Bool) (w : List ℕ) (choice : ℕ) (t x : List ℕ) (short : length w ≤ limit) (room : rows * (length w + 1) ≤ length t)
+    (is : x ≡ filled (choiceOf choice) (piece? p w) (length w) t) where
+  -- what it requires holds
+  pub given-readable : Readable (length w) x
+  given-readable = (
+    short,
+    omega (arith, ap length is, filled-long (choiceOf choice) (piece? p w) (length w) t room),
+    rw is (filled-linked (choiceOf choice) (piece? p w) (length w) t (omega arith)),
+  )
 
-    pub given-ends : (e : List ℕ) → handedEnds n r e ≡ sizeEnds (cell c b n) (bestEnds c b n) e
-    given-ends = rw is (filled-ends h)
-
-    pub given-cleared : (z : List ℕ) → z ≡ zeros r (n + 1) (second n) → rows * (n + 1) ≤ length t
-        → lent r (n + 1) (second n) z ≡ sizes c b n ++ (replicate (3 * (n + 1)) 0 ++ drop (rows * (n + 1)) t)
-    given-cleared z f room = rw (f, is) (filled-cleared room)
+  -- CLAIM: what it ensures is the answer and the tables of the best split
+  pub given-finished : (e : List ℕ) (o : Outcome) (f y : List ℕ)
+      → (o ≡ handedOutcome (getD x (length w) 0) (length e)) × ((f ≡ handedEnds (length w) x e) × (y ≡ clearedRow (length w) x))
+      → (o ≡ sizeOutcome (wholeCell p w choice) (length e)) × ((f ≡ settledEnds p w choice e) × (y ≡ settledWork p w choice t))
+  given-finished e o f y E = (
+    E .0 ∙ rw is (filled-outcome (choiceOf choice) (piece? p w) (length w) t (omega arith) (length e)),
+    (
+      E .1 .0 ∙ rw is (filled-ends (choiceOf choice) (piece? p w) (length w) t (omega arith) e),
+      E .1 .1 ∙ rw is (filled-cleared (choiceOf choice) (piece? p w) (length w) t),
+    ),
+  )

@@ -11,8 +11,7 @@ use native.Mathlib.Decide.{decLe, ℕ-discrete}
 use borrow.Author.Tests.{le-leb, lt-leb, eq-eqb, ne-eqb}
 use lib.ListN.{length, getD, set, length-set}
 use lib.Seq.{getD-set-same, getD-set-other, drop-set-lt}
-use Rattle.answers.specs.Outcome.{limit}
-use Rattle.periods.specs.Period.{part, Period, unitMemory}
+use Rattle.periods.specs.Period.{part, Period, repetition?, unitMemory, heldPeriod}
 use Rattle.periods.specs.Edition.{Turns}
 use Rattle.periods.proofs.InPlace.{PeriodIn, symbol, period-piece, period-longer, part-period-in, part-period-out}
 use Rattle.factors.specs.Factorization.{Choice, Cell, unreachable, scan, cell}
@@ -21,24 +20,23 @@ use Rattle.factors.proofs.Optimal.{cell-suc}
 use Rattle.factors.proofs.TableLaws.{holds-same}
 use Rattle.factors.proofs.Filling.{scan-same, scan-nothing}
 use Rattle.factorizer.specs.Piece.{piece?}
-use Rattle.factorizer.specs.Rule.{kind?}
 use Rattle.factorizer.specs.Window.{windowOf, Windowed, RestKept, passedOn, lengthened}
-use Rattle.factorizer.proofs.Windows.{window-holds, goes-on, ends-there, stays-out}
+use Rattle.factorizer.proofs.LongBlocks.{block-goes-on, block-ends, block-shorter}
 
-module _ (c : Choice) (square : Bool) (k : ℕ) (turns : Turns k) (w : List ℕ) (short : length w ≤ limit) (j u : ℕ) (t : List ℕ) (room : rows * (length w + 1) ≤ length t)
-    (S : Windowed c (piece? (kind? square k) w) w (windowOf square k) (suc j) j u t) where
+module _ (c : Choice) (k : ℕ) (turns : Turns k) (w : List ℕ) (j u : ℕ) (t : List ℕ) (room : rows * (length w + 1) ≤ length t)
+    (S : Windowed c (piece? (repetition? heldPeriod k) w) w (windowOf k) (suc j) j u t) where
   abbrev b : ℕ → ℕ → Bool
-  b = piece? (kind? square k) w
+  b = piece? (repetition? heldPeriod k) w
 
   abbrev window : ℕ
-  window = windowOf square k
+  window = windowOf k
 
   -- the end of the window
   abbrev m : ℕ
   m = j + window
 
   some-window : 2 * unitMemory ≤ window
-  some-window = window-holds square k turns
+  some-window = omega (arith, turns .0)
 
   step : suc j + window ≡ suc m
   step = omega arith
@@ -134,17 +132,17 @@ module _ (c : Choice) (square : Bool) (k : ℕ) (turns : Turns k) (w : List ℕ)
   -- the known period goes on to the next symbol, or not
   module _ (h : m < length w) where
     none-after : None m → None (suc m)
-    none-after none i l r = stays-out k turns w short j i (omega arith) square h (none i l r)
+    none-after none i l r = block-shorter unitMemory k w (turns .0) (omega arith) j i (omega arith) (none i l r)
 
     going : symbol w m ≡ symbol w (m - u) → ((u ≤ unitMemory) × Period (part w j m) u) ⊎ None m → Windowed c b w window (suc j) (suc j) u (passedOn (length w) m t)
     going e (inl (low, P)) =
         let U = part-period-in w j m u (omega arith) P in
-        copies h (inl (λ i l. goes-on k turns w short j i (omega arith) square u low h U e))
+        copies h (inl (λ i l. block-goes-on unitMemory k w (turns .0) j u low U i (omega arith) h e))
         (inl (low, period-piece (symbol w) (period-longer (symbol w) j m u U e) (omega arith) (omega arith) (omega (arith, low, some-window))))
     going e (inr none) = copies h (inr (none, none-after none)) (inr (none-after none))
 
     ending : (symbol w m ≡ symbol w (m - u) → ⊥) → ((u ≤ unitMemory) × Period (part w j m) u) ⊎ None m → Windowed c b w window (suc j) (suc j) u t
-    ending ne (inl (low, P)) = stops (λ i l r. ends-there k turns w short j i (omega arith) square u low h (part-period-in w j m u (omega arith) P) ne)
+    ending ne (inl (low, P)) = stops (λ i l r. block-ends unitMemory k w (turns .0) j u low (part-period-in w j m u (omega arith) P) i (omega arith) ne)
     ending ne (inr none) = stops (none-after none)
 
   -- CLAIM: so what is known of boundary j after its offers, lengthening makes known of the next
@@ -168,9 +166,9 @@ module _ (c : Choice) (square : Bool) (k : ℕ) (turns : Turns k) (w : List ℕ)
       by (yes h) = rw (le-leb (length w) m h) (ended h, (refl, refl))
       by (no h) = by-symbol (omega arith) (ℕ-discrete (symbol w m) (symbol w (m - u)))
 
--- the same of the table y that lengthening leaves, where d symbols are a window
-pub lengthens : (c : Choice) (square : Bool) (k : ℕ) → Turns k → (w : List ℕ) → length w ≤ limit → (j u : ℕ) (t : List ℕ) → rows * (length w + 1) ≤ length t → (d : ℕ) (y : List ℕ)
-    → d ≡ windowOf square k → Windowed c (piece? (kind? square k) w) w (windowOf square k) (j + 1) j u t → y ≡ lengthened w (j + d) u t
-    → Windowed c (piece? (kind? square k) w) w (windowOf square k) (j + 1) (j + 1) u y × RestKept (length w) t y
-lengthens c square k turns w short j u t room d y e S g =
-    rw (g, e, add-one j) (passed c square k turns w short j u t room (subst (λ (i : ℕ). Windowed c (piece? (kind? square k) w) w (windowOf square k) i j u t) (add-one j) S))
+-- the same of the table y that lengthening leaves
+pub lengthens : (c : Choice) (k : ℕ) → Turns k → (w : List ℕ) (j u : ℕ) (t : List ℕ) → rows * (length w + 1) ≤ length t → (y : List ℕ)
+    → Windowed c (piece? (repetition? heldPeriod k) w) w (windowOf k) (j + 1) j u t → y ≡ lengthened w (j + windowOf k) u t
+    → Windowed c (piece? (repetition? heldPeriod k) w) w (windowOf k) (j + 1) (j + 1) u y × RestKept (length w) t y
+lengthens c k turns w j u t room y S g =
+    rw (g, add-one j) (passed c k turns w j u t room (subst (λ (i : ℕ). Windowed c (piece? (repetition? heldPeriod k) w) w (windowOf k) i j u t) (add-one j) S))

@@ -10,7 +10,8 @@ use native.Mathlib.Numerals.{add-one}
 use native.Mathlib.Decide.{decLt, decLe}
 use lib.ListN.{length, getD}
 use Rattle.answers.specs.Outcome.{limit}
-use Rattle.periods.specs.Period.{part, Period, smallestPeriod, unitMemory}
+use Rattle.periods.specs.Period.{part, Period, smallestPeriod, repetition?, unitMemory, heldPeriod}
+use Rattle.periods.specs.Edition.{Turns}
 use Rattle.periods.proofs.InPlace.{SmallestIn, symbol, part-period-in, part-period-out}
 use Rattle.periods.proofs.Claims.{part-smallest}
 use Rattle.factors.specs.Factorization.{Choice, Cell, unreachable, reached, offer, scan, cell}
@@ -19,19 +20,18 @@ use Rattle.factors.proofs.Optimal.{size-bound, scan-unreachable}
 use Rattle.factors.proofs.TableLaws.{holds-none, holds-reached, holds-same}
 use Rattle.factors.proofs.Filling.{length-spread, spread-drop, spread-past, spread-outside, spread-inside}
 use Rattle.factorizer.specs.Piece.{piece?}
-use Rattle.factorizer.specs.Rule.{Ruled, kind?}
 use Rattle.factorizer.specs.Fill.{unitAt, endsBlock}
 use Rattle.factorizer.specs.Window.{windowOf, Windowed, RestKept}
 use Rattle.factorizer.proofs.FillLaws.{laid, laid-long, laid-same, laid-kept, laid-unit, laid-decides}
-use Rattle.factorizer.proofs.Windows.{window-holds, window-no-block}
+use Rattle.factorizer.proofs.Windows.{window-no-block}
 
-module _ (c : Choice) (square : Bool) (k : ℕ) (R : Ruled square k) (w : List ℕ) (short : length w ≤ limit) (j u : ℕ) (t : List ℕ) (inside : j < length w)
-    (S : Windowed c (piece? (kind? square k) w) w (windowOf square k) j j u t) where
+module _ (c : Choice) (k : ℕ) (turns : Turns k) (w : List ℕ) (short : length w ≤ limit) (j u : ℕ) (t : List ℕ) (inside : j < length w)
+    (S : Windowed c (piece? (repetition? heldPeriod k) w) w (windowOf k) j j u t) where
   abbrev b : ℕ → ℕ → Bool
-  b = piece? (kind? square k) w
+  b = piece? (repetition? heldPeriod k) w
 
   abbrev window : ℕ
-  window = windowOf square k
+  window = windowOf k
 
   abbrev Held : ℕ → Type 0
   Held v = (v ≤ unitMemory) × Period (part w j (j + window)) v
@@ -73,13 +73,13 @@ module _ (c : Choice) (square : Bool) (k : ℕ) (R : Ruled square k) (w : List �
     l = laid w j (j + len) t
 
     abbrev ends : ℕ → Bool
-    ends = endsBlock square k (length w) l
+    ends = endsBlock k (length w) l
 
     abbrev after : List ℕ
     after = spread c (length w) j (getD t j 0 + 1) ends len l
 
     some-window : 2 * unitMemory ≤ window
-    some-window = window-holds square k (R .0)
+    some-window = omega (arith, turns .0)
 
     in-word : j + len ≤ length w
     in-word = omega arith
@@ -107,7 +107,7 @@ module _ (c : Choice) (square : Bool) (k : ℕ) (R : Ruled square k) (w : List �
         let v = scan c b (cell c b) (j + (i + 1)) j in
         rw (add-one (getD t j 0))
         (subst (λ (y : Cell). Holds (spread c (length w) j (suc (getD t j 0)) ends len l) (j + (i + 1)) (length w + 1 + (j + (i + 1))) y)
-        (ap₂ (λ (y : Bool) (z : Cell). offer c j v y z) (laid-decides w j (j + len) t in-word room square k R i (omega arith) x) (sym (reached-here .1)))
+        (ap₂ (λ (y : Bool) (z : Cell). offer c j v y z) (laid-decides w j (j + len) t in-word room k turns i (omega arith) x) (sym (reached-here .1)))
         (spread-inside c (length w) j (getD t j 0) (reached-here .0) ends l (omega (arith, long)) size-small len i v in-word (omega arith)
         (on-laid (j + (i + 1)) v (omega arith) (S .near (j + (i + 1)) (omega arith) (omega arith) (omega arith)))))
 
@@ -138,7 +138,7 @@ module _ (c : Choice) (square : Bool) (k : ℕ) (R : Ruled square k) (w : List �
 
       -- memory does not hold the unit: then it holds no period of the window, and no block reaches the end
       none-ends : unitMemory < unitAt (length w) after (len - 1) → None (suc j)
-      none-ends above = one-more (λ r. window-no-block square k w short j whole (λ p P. omega (arith, unit-smallest .least p P))) (go (S .known whole))
+      none-ends above = one-more (λ r. window-no-block k w j (λ p P. omega (arith, unit-smallest .least p P))) (go (S .known whole))
         where
           go : Held u ⊎ None j → None j
           go (inl U) = absurd (omega (arith, U .0, unit-smallest .least u (part-period-in w j (j + window) u (omega arith) (U .1))))
@@ -160,6 +160,6 @@ module _ (c : Choice) (square : Bool) (k : ℕ) (R : Ruled square k) (w : List �
     }
 
     -- the same of a table r that the offers leave, where d symbols were read and m is the table with their units
-    pub given-offers : (d : ℕ) (m r : List ℕ) → d ≡ len → m ≡ laid w j (j + d) t → r ≡ spread c (length w) j (getD t j 0 + 1) (endsBlock square k (length w) m) d m
+    pub given-offers : (d : ℕ) (m r : List ℕ) → d ≡ len → m ≡ laid w j (j + d) t → r ≡ spread c (length w) j (getD t j 0 + 1) (endsBlock k (length w) m) d m
         → Windowed c b w window (j + 1) j (unitAt (length w) r (d - 1)) r × RestKept (length w) t r
     given-offers d m r e f g = rw (g, f, e) (visit-offers, visit-kept)

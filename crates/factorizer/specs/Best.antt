@@ -2,14 +2,14 @@
 -- 2, 7", once the word is known to be within the limit.
 use mathlib.Core.Path.{_≡_}
 use mathlib.Core.Logic.{_⊎_}
-use mathlib.Core.Bool.{Bool, cond, _||_}
+use mathlib.Core.Bool.{Bool, cond}
 use mathlib.Core.List.{List, [], _∷_, _++_}
 use Prim.Native.Nat.{ℕ, _+_, _*_, _≤_, _<_}
 use lib.Dec.{ltb}
 use lib.ListN.{length, getD, take, drop, replicate}
 use Rattle.answers.specs.declared.Refusal.the-variants.{NoFactorization, TooFewPlaces, BadChoice, ShortTable}
 use Rattle.answers.specs.Outcome.{Outcome, accepted, refused, refusal}
-use Rattle.factors.specs.Factorization.{Factorization, size, Choice, fewest, most, choiceOf, AsGood, Best, Cell, unreachable, reached, cell, bestEnds}
+use Rattle.factors.specs.Factorization.{Factorization, size, Choice, choiceOf, badChoice?, AsGood, Best, Cell, unreachable, reached, cell, bestEnds}
 use Rattle.factors.specs.Table.{none, rows, sizes}
 use Rattle.factorizer.specs.Piece.{Piece, piece?}
 
@@ -41,7 +41,7 @@ settledWork p w choice t =
 -- "8: a choice other than 1 or 2. 9: a working table under 4×(n+1) places." One of these is met, or the rest decides; n is the word's length.
 abbrev pub tested : {A : Type 0} → ℕ → ℕ → ℕ → A → A → A → A
 tested n choice space bad short rest =
-    cond (ltb choice fewest || ltb most choice) bad (cond (ltb space (rows * (n + 1))) short rest)
+    cond (badChoice? choice) bad (cond (ltb space (rows * (n + 1))) short rest)
 
 -- e and t are the lent tables for the ends and for the work
 unfoldable pub chosenOutcome : (List ℕ → Bool) → List ℕ → ℕ → List ℕ → List ℕ → Outcome

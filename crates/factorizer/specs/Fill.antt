@@ -3,28 +3,27 @@ use mathlib.Core.Path.{_≡_}
 use mathlib.Core.Bool.{Bool, cond}
 use mathlib.Core.List.{List, [], _∷_, _++_}
 use Prim.Native.Nat.{ℕ, _+_, _-_, _*_, _≤_, _<_}
-use lib.Dec.{ltb, eqb}
-use lib.ListN.{length, getD, take, drop}
+use lib.Dec.{leb, ltb, eqb}
+use lib.ListN.{length, getD, take, drop, replicate}
 use Rattle.answers.specs.declared.Refusal.the-variants.{NoFactorization, TooFewPlaces}
 use Rattle.answers.specs.Outcome.{Outcome, accepted, refusal, limit}
 use Rattle.factors.specs.Table.{none, rows, endsBack, Linked}
-use Rattle.factorizer.specs.Rule.{spanTest}
 
 -- the unit of the part of d + 1 symbols after a boundary, in row 2
 abbrev pub unitAt : ℕ → List ℕ → ℕ → ℕ
 unitAt n t d = getD t (n + 1 + (n + 1) + d) 0
 
--- the units of the parts of up to `len` symbols are not 0, and never fall as the part grows
+-- the units of the parts of up to `len` symbols never fall as the part grows
 abbrev pub UnitsRise : ℕ → ℕ → List ℕ → Type 0
-UnitsRise n len t = ((d : ℕ) → d < len → 1 ≤ unitAt n t d) × ((d e : ℕ) → d ≤ e → e < len → unitAt n t d ≤ unitAt n t e)
+UnitsRise n len t = (d e : ℕ) → d ≤ e → e < len → unitAt n t d ≤ unitAt n t e
+
+-- whether k turns of the unit fit into that part, which in a window makes it a block
+abbrev pub endsBlock : ℕ → ℕ → List ℕ → ℕ → Bool
+endsBlock k n t d = leb (k * unitAt n t d) (d + 1)
 
 -- the word is within the limit, and the working table has its four rows
 abbrev pub Workable : List ℕ → List ℕ → Type 0
 Workable w t = (length w ≤ limit) × (rows * (length w + 1) ≤ length t)
-
--- whether that part is a block, by a rule that asks for k turns
-abbrev pub endsBlock : Bool → ℕ → ℕ → List ℕ → ℕ → Bool
-endsBlock square k n t d = spanTest square (d + 1) (k * unitAt n t d)
 
 -- row 1 of a table
 abbrev pub rowOne : ℕ → List ℕ → List ℕ
@@ -46,3 +45,7 @@ handedOutcome v places = cond (eqb v none) (refusal NoFactorization) (cond (ltb 
 abbrev pub handedEnds : ℕ → List ℕ → List ℕ → List ℕ
 handedEnds n t e =
     cond (eqb (getD t n 0) none) e (cond (ltb (length e) (getD t n 0)) e (endsBack (rowOne n t) (getD t n 0) n ++ drop (getD t n 0) e))
+
+-- the table with row 1 cleared
+abbrev pub clearedRow : ℕ → List ℕ → List ℕ
+clearedRow n t = take (n + 1) t ++ (replicate (n + 1) 0 ++ drop (n + 1 + (n + 1)) t)

@@ -2,20 +2,18 @@
 -- window's end to the next boundary, with any period of the window that memory holds.
 use mathlib.Core.Path.{_≡_}
 use mathlib.Core.Logic.{_⊎_}
-use mathlib.Core.Bool.{Bool, true, false, cond}
+use mathlib.Core.Bool.{Bool, false, cond}
 use mathlib.Core.List.{List}
 use Prim.Native.Nat.{ℕ, _+_, _-_, _*_, _≤_, _<_}
 use lib.Dec.{leb, eqb}
 use lib.ListN.{length, getD, set, drop}
-use Rattle.answers.specs.Outcome.{limit}
 use Rattle.periods.specs.Period.{part, Period, unitMemory}
 use Rattle.factors.specs.Factorization.{Choice, unreachable, scan, cell}
 use Rattle.factors.specs.Table.{rows, Holds}
 
--- how many symbols after a boundary are read at most; squares "keep any length"
-abbrev pub windowOf : Bool → ℕ → ℕ
-windowOf true k = limit
-windowOf false k = k * unitMemory
+-- how many symbols after a boundary are read at most, where a block has k turns or more
+abbrev pub windowOf : ℕ → ℕ
+windowOf k = k * unitMemory
 
 -- Between two steps. Boundary j is at hand, and those below `before` have offered: the places of the boundaries up to j hold their cells, those up to the end of
 -- the window after j the best over the boundaries below `before`, and those above nothing. Where symbols follow the window, u is a period of it that memory

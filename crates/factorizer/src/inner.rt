@@ -3,12 +3,13 @@ ghost use mathlib.Core.Path.{_≡_};
 ghost use Prim.Native.Nat.{min, _≤_, _<_, _+_, _-_, _*_};
 ghost use lib.ListN.{length, getD};
 ghost use Rattle.answers.specs.Outcome.{countedView, limit};
+ghost use Rattle.periods.specs.Period.{repetition?, heldPeriod};
 ghost use Rattle.periods.specs.Edition.{Turns};
 ghost use Rattle.factors.specs.Factorization.{choiceOf};
 ghost use Rattle.factors.specs.Table.{rows, spread, filled};
 ghost use Rattle.factorizer.specs.Piece.{piece?};
-ghost use Rattle.factorizer.specs.Rule.{Ruled, blockBy, spanTest};
-ghost use Rattle.factorizer.specs.Fill.{UnitsRise, Workable, endsBlock, Readable, handedOutcome, handedEnds};
+ghost use Rattle.factorizer.specs.Rule.{blockBy};
+ghost use Rattle.factorizer.specs.Fill.{UnitsRise, Workable, endsBlock, Readable, handedOutcome, handedEnds, clearedRow};
 ghost use Rattle.factorizer.specs.Window.{windowOf, Windowed, RestKept, lengthened};
 ghost use Rattle.factorizer.specs.Best.{sizeOutcome, wholeCell, settledEnds, settledWork, chosenOutcome, chosenEnds, chosenWork};
 ghost use Rattle.factorizer.specs.Judge.{pieceVerdict};
@@ -17,52 +18,28 @@ use answers::Counted;
 use answers::Refusal;
 use factors::NONE;
 
-// Whether a part is a block, from its length and that of the turns which the rule asks of its unit: a
-// repetition has them and may have more, a square has them a number of times and no rest.
-fn ends_block(square: bool, len: usize, span: usize) -> bool
-    requires { ⌜ 0 < span ⌝ }
-    ensures { λ r. ⌜ r ≡ spanTest square len span ⌝ }
-{
-    if square {
-        return len % span == 0;
-    }
-    span <= len
-}
-
 // Offers a size from boundary j to each of the next len boundaries at which a block that starts there
-// ends. Row 2 has the units of the parts after boundary j; they never fall, so the first that is too
-// long for any part ends the work.
-fn spread(work: &mut [u32], n: usize, rule: Rule, choice: u32, j: usize, len: usize, size: u32)
-    requires { ⌜ (n ≤ limit) × (j + len ≤ n) × (rows * (n + 1) ≤ length (now work)) × UnitsRise n len (now work) × Turns (rule .turns) ⌝ }
-    ensures { λ _. ⌜ now (work .exit) ≡ spread (choiceOf choice) n j size (endsBlock (rule .square) (rule .turns) n (now (work .entry))) len (now (work .entry)) ⌝ }
+// ends: the turns of its unit fit into it. Row 2 has the units of the parts after boundary j; they
+// never fall, so the first that is too long for any part ends the work.
+fn spread(work: &mut [u32], n: usize, turns: usize, choice: u32, j: usize, len: usize, size: u32)
+    requires { ⌜ (n ≤ limit) × (j + len ≤ n) × (rows * (n + 1) ≤ length (now work)) × UnitsRise n len (now work) × Turns turns ⌝ }
+    ensures { λ _. ⌜ now (work .exit) ≡ spread (choiceOf choice) n j size (endsBlock turns n (now (work .entry))) len (now (work .entry)) ⌝ }
 {
     let row = n + 1;
     let units = row + row;
     let mut d: usize = 0;
     while d < len {
-        let span = rule.turns * (work[units + d] as usize);
+        let span = turns * (work[units + d] as usize);
         if len < span {
             return;
         }
         d += 1;
-        if !ends_block(rule.square, d, span) {
+        if d < span {
             continue;
         }
         let m = j + d;
         factors::inner::offer(work, choice, m, row + m, size, j as u32);
     }
-}
-
-// How many symbols after a boundary are read at most. A block that is longer goes on with a period of
-// those that are read; a square may have any length, so all that follows is read.
-fn window(rule: Rule) -> usize
-    requires { ⌜ Turns (rule .turns) ⌝ }
-    ensures { λ r. ⌜ r ≡ windowOf (rule .square) (rule .turns) ⌝ }
-{
-    if rule.square {
-        return answers::LIMIT;
-    }
-    rule.turns * periods::UNIT_MEMORY
 }
 
 fn lesser(a: usize, b: usize) -> usize
@@ -78,10 +55,10 @@ fn lesser(a: usize, b: usize) -> usize
 // window. The part call is lent row 2 and writes the units of the window, which are the same in every
 // edition; what it answers is not needed. Gives the unit of the window, or what is known where the
 // boundary is not reached.
-fn visit(w: &[u8], rule: Rule, choice: u32, j: usize, known: usize, work: &mut [u32]) -> usize
-    requires { ⌜ Workable (now w) (now work) × Ruled (rule .square) (rule .turns) × (j < length (now w)) ⌝ }
-    requires { ⌜ Windowed (choiceOf choice) (piece? (blockBy rule) (now w)) (now w) (windowOf (rule .square) (rule .turns)) j j known (now work) ⌝ }
-    ensures { λ r. ⌜ Windowed (choiceOf choice) (piece? (blockBy rule) (now (w .entry))) (now (w .entry)) (windowOf (rule .square) (rule .turns)) (j + 1) j r (now (work .exit)) ⌝ }
+fn visit(w: &[u8], turns: usize, choice: u32, j: usize, known: usize, work: &mut [u32]) -> usize
+    requires { ⌜ Workable (now w) (now work) × Turns turns × (j < length (now w)) ⌝ }
+    requires { ⌜ Windowed (choiceOf choice) (piece? (repetition? heldPeriod turns) (now w)) (now w) (windowOf turns) j j known (now work) ⌝ }
+    ensures { λ r. ⌜ Windowed (choiceOf choice) (piece? (repetition? heldPeriod turns) (now (w .entry))) (now (w .entry)) (windowOf turns) (j + 1) j r (now (work .exit)) ⌝ }
     ensures { λ _. ⌜ RestKept (length (now (w .entry))) (now (work .entry)) (now (work .exit)) ⌝ }
 {
     let size = work[j];
@@ -92,7 +69,7 @@ fn visit(w: &[u8], rule: Rule, choice: u32, j: usize, known: usize, work: &mut [
     let row = n + 1;
     let two = row + row;
     let three = two + row;
-    let len = lesser(window(rule), n - j);
+    let len = lesser(turns * periods::UNIT_MEMORY, n - j);
     periods::part(
         w,
         periods::FIRST_EDITION,
@@ -100,7 +77,7 @@ fn visit(w: &[u8], rule: Rule, choice: u32, j: usize, known: usize, work: &mut [
         (j + len) as u32,
         &mut work[two..three],
     );
-    spread(work, n, rule, choice, j, len, size + 1);
+    spread(work, n, turns, choice, j, len, size + 1);
     work[two + (len - 1)] as usize
 }
 
@@ -123,23 +100,24 @@ fn lengthen(w: &[u8], m: usize, period: usize, work: &mut [u32])
     work[row + next] = work[row + m];
 }
 
-// Fills the working table: the best size of each prefix length, and the previous boundary that it
-// came from. Boundaries in rising order; one that is not reached offers nothing. Time: the product of
-// the word's length and the window at most.
-pub fn fill(w: &[u8], rule: Rule, choice: u32, work: &mut [u32])
-    requires { ⌜ Workable (now w) (now work) × Ruled (rule .square) (rule .turns) ⌝ }
-    ensures { λ _. ⌜ now (work .exit) ≡ filled (choiceOf choice) (piece? (blockBy rule) (now (w .entry))) (length (now (w .entry))) (now (work .entry)) ⌝ }
+// Fills the working table for repetitions: the best size of each prefix length, and the previous
+// boundary that it came from. Boundaries in rising order; one that is not reached offers nothing. From
+// each only a window is read, the turns of the longest unit: a longer block goes on with a period of
+// it. Time: the product of the word's length and the window at most.
+pub fn fill(w: &[u8], turns: usize, choice: u32, work: &mut [u32])
+    requires { ⌜ Workable (now w) (now work) × Turns turns ⌝ }
+    ensures { λ _. ⌜ now (work .exit) ≡ filled (choiceOf choice) (piece? (repetition? heldPeriod turns) (now (w .entry))) (length (now (w .entry))) (now (work .entry)) ⌝ }
 {
     let n = w.len();
     let row = n + 1;
     let two = row + row;
     factors::inner::start(work, n);
     factors::inner::clear(&mut work[row..two]);
-    let window = window(rule);
+    let window = turns * periods::UNIT_MEMORY;
     let mut unit: usize = 0;
     let mut j: usize = 0;
     while j < n {
-        unit = visit(w, rule, choice, j, unit, work);
+        unit = visit(w, turns, choice, j, unit, work);
         lengthen(w, j + window, unit, work);
         j += 1;
     }
@@ -167,16 +145,14 @@ fn hand_out(work: &[u32], n: usize, ends: &mut [u32]) -> Counted
     Counted::Count(size)
 }
 
-// The best factorization where the table has its four rows: fills the table, hands out the answer,
-// and clears the row of previous boundaries.
-fn settle(w: &[u8], rule: Rule, choice: u32, ends: &mut [u32], work: &mut [u32]) -> Counted
-    requires { ⌜ Workable (now w) (now work) × Ruled (rule .square) (rule .turns) ⌝ }
-    ensures { λ r. ⌜ countedView r ≡ sizeOutcome (wholeCell (blockBy rule) (now (w .entry)) choice) (length (now (ends .entry))) ⌝ }
-    ensures { λ _. ⌜ now (ends .exit) ≡ settledEnds (blockBy rule) (now (w .entry)) choice (now (ends .entry)) ⌝ }
-    ensures { λ _. ⌜ now (work .exit) ≡ settledWork (blockBy rule) (now (w .entry)) choice (now (work .entry)) ⌝ }
+// Answers from a filled table of a word of n symbols, writes the ends where there is a factorization
+// and room for them, and clears the row of previous boundaries.
+pub fn finish(n: usize, ends: &mut [u32], work: &mut [u32]) -> Counted
+    requires { ⌜ Readable n (now work) ⌝ }
+    ensures { λ r. ⌜ countedView r ≡ handedOutcome (getD (now (work .entry)) n 0) (length (now (ends .entry))) ⌝ }
+    ensures { λ _. ⌜ now (ends .exit) ≡ handedEnds n (now (work .entry)) (now (ends .entry)) ⌝ }
+    ensures { λ _. ⌜ now (work .exit) ≡ clearedRow n (now (work .entry)) ⌝ }
 {
-    let n = w.len();
-    fill(w, rule, choice, work);
     let answer = hand_out(work, n, ends);
     let row = n + 1;
     let two = row + row;
@@ -184,23 +160,31 @@ fn settle(w: &[u8], rule: Rule, choice: u32, ends: &mut [u32], work: &mut [u32])
     answer
 }
 
-// The best factorization of a word within the limit. Refusals: 8, 9, 2, 7.
-pub fn best(w: &[u8], rule: Rule, choice: u32, ends: &mut [u32], work: &mut [u32]) -> Counted
-    requires { ⌜ (length (now w) ≤ limit) × Ruled (rule .square) (rule .turns) ⌝ }
-    ensures { λ r. ⌜ countedView r ≡ chosenOutcome (blockBy rule) (now (w .entry)) choice (now (ends .entry)) (now (work .entry)) ⌝ }
-    ensures { λ _. ⌜ now (ends .exit) ≡ chosenEnds (blockBy rule) (now (w .entry)) choice (now (ends .entry)) (now (work .entry)) ⌝ }
-    ensures { λ _. ⌜ now (work .exit) ≡ chosenWork (blockBy rule) (now (w .entry)) choice (now (work .entry)) ⌝ }
+// The best factorization into repetitions, where the table has its four rows.
+fn settle(w: &[u8], turns: usize, choice: u32, ends: &mut [u32], work: &mut [u32]) -> Counted
+    requires { ⌜ Workable (now w) (now work) × Turns turns ⌝ }
+    ensures { λ r. ⌜ countedView r ≡ sizeOutcome (wholeCell (repetition? heldPeriod turns) (now (w .entry)) choice) (length (now (ends .entry))) ⌝ }
+    ensures { λ _. ⌜ now (ends .exit) ≡ settledEnds (repetition? heldPeriod turns) (now (w .entry)) choice (now (ends .entry)) ⌝ }
+    ensures { λ _. ⌜ now (work .exit) ≡ settledWork (repetition? heldPeriod turns) (now (w .entry)) choice (now (work .entry)) ⌝ }
 {
-    if choice < factors::FEWEST {
-        return Counted::Refused(Refusal::BadChoice);
-    }
-    if factors::MOST < choice {
+    fill(w, turns, choice, work);
+    finish(w.len(), ends, work)
+}
+
+// The best factorization of a word within the limit into repetitions. Refusals: 8, 9, 2, 7.
+pub fn best(w: &[u8], turns: usize, choice: u32, ends: &mut [u32], work: &mut [u32]) -> Counted
+    requires { ⌜ (length (now w) ≤ limit) × Turns turns ⌝ }
+    ensures { λ r. ⌜ countedView r ≡ chosenOutcome (repetition? heldPeriod turns) (now (w .entry)) choice (now (ends .entry)) (now (work .entry)) ⌝ }
+    ensures { λ _. ⌜ now (ends .exit) ≡ chosenEnds (repetition? heldPeriod turns) (now (w .entry)) choice (now (ends .entry)) (now (work .entry)) ⌝ }
+    ensures { λ _. ⌜ now (work .exit) ≡ chosenWork (repetition? heldPeriod turns) (now (w .entry)) choice (now (work .entry)) ⌝ }
+{
+    if factors::bad_choice(choice) {
         return Counted::Refused(Refusal::BadChoice);
     }
     if work.len() < factors::ROWS * (w.len() + 1) {
         return Counted::Refused(Refusal::ShortTable);
     }
-    settle(w, rule, choice, ends, work)
+    settle(w, turns, choice, ends, work)
 }
 
 // Whether a part is a block.

@@ -1,12 +1,12 @@
-// The best factorization of a word and the judge of one, for both kinds of blocks: what best split
-// and best squares share.
+// The best factorization of a word into repetitions; and what best split and best squares share: the
+// answer from a filled table, and the judge of a factorization into either kind of blocks.
 ghost use mathlib.Core.Path.{_≡_};
 ghost use Rattle.factorizer.specs.Rule.{ruleOf, squareRule};
 
 pub mod inner;
 
-// What a block is: a repetition of so many turns at least, or a square, which has two turns of its
-// half.
+// What the judge takes for a block: a repetition of so many turns at least, or a square, which has two
+// turns of its half.
 pub struct Rule {
     pub turns: usize,
     pub square: bool,

@@ -1,7 +1,7 @@
 -- Factorizations (splits) of a prefix (leading part), for any relation of blocks between boundaries (joints). Nothing here knows what a repetition is.
 use mathlib.Core.Path.{_≡_}
 use mathlib.Core.Logic.{_⊎_}
-use mathlib.Core.Bool.{Bool, true, false, cond}
+use mathlib.Core.Bool.{Bool, true, false, cond, _||_}
 use mathlib.Core.List.{List, [], _∷_, _++_, reverse}
 use Prim.Native.Nat.{ℕ, zero, suc, _-_, _≤_, _<_}
 use lib.Dec.{ltb, eqb}
@@ -33,6 +33,10 @@ most = 2
 
 abbrev pub choiceOf : ℕ → Choice
 choiceOf c = cond (eqb c fewest) smallest largest
+
+-- "8: a choice other than 1 or 2."
+abbrev pub badChoice? : ℕ → Bool
+badChoice? c = ltb c fewest || ltb most c
 
 -- a size s is as good as t, or better
 abbrev pub AsGood : Choice → ℕ → ℕ → Type 0

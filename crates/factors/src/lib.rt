@@ -1,6 +1,7 @@
 // What every factorizer and every judge shares: the choices, the working table of four rows of n + 1
-// places each, and the test of an end.
+// places each, and the tests of a choice and of an end.
 ghost use mathlib.Core.Path.{_≡_};
+ghost use Rattle.factors.specs.Factorization.{badChoice?};
 ghost use Rattle.factors.specs.Verdict.{badEnd?};
 
 pub mod inner;
@@ -15,6 +16,16 @@ pub const NONE: u32 = 4294967295;
 
 // How many rows of n + 1 places a working table has.
 pub const ROWS: usize = 4;
+
+// Whether a choice is none of the two (refusal 8).
+pub fn bad_choice(choice: u32) -> bool
+    ensures { λ r. ⌜ r ≡ badChoice? choice ⌝ }
+{
+    if choice < FEWEST {
+        return true;
+    }
+    MOST < choice
+}
 
 // Whether an end is out of place (refusal 3): not above the one before it, or above n.
 pub fn bad_end(before: usize, end: usize, n: usize) -> bool

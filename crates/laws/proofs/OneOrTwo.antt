@@ -1,7 +1,7 @@
 -- A number that is 1 or 2, as choices and editions are: its bounds, and the test that finds any other. By cases on the number. Assumes nothing.
-use mathlib.Core.Path.{_≡_, refl}
+use mathlib.Core.Path.{_≡_, refl, sym, _∙_}
 use mathlib.Core.Logic.{_⊎_, inl, inr}
-use mathlib.Core.Bool.{true, false, _||_, or-true}
+use mathlib.Core.Bool.{true, false, _||_, or-true, true≢false}
 use Prim.Native.Nat.{ℕ, _≤_, _<_}
 use native.Mathlib.Omega.{arith}
 use native.Mathlib.Decide.{decLt, ℕ-discrete}
@@ -42,3 +42,14 @@ module _ (n : ℕ) where
       go (yes x) y = rw (lt-ltb n 1 x) refl
       go (no x) (yes y) = rw (lt-ltb 2 n y) (or-true (ltb n 1))
       go (no x) (no y) = absurd (h (one-or-two (omega arith) (omega arith)))
+
+  -- and so a test that was made says which it is
+  pub one-or-two-by-test : (ltb n 1 || ltb 2 n) ≡ false → OneOrTwo n
+  one-or-two-by-test h = go one-or-two?
+    where
+      go : Dec (OneOrTwo n) → OneOrTwo n
+      go (yes x) = x
+      go (no x) = absurd (true≢false (sym (test-of-other x) ∙ h))
+
+  pub other-by-test : (ltb n 1 || ltb 2 n) ≡ true → OneOrTwo n → ⊥
+  other-by-test h x = true≢false (sym h ∙ test-of-one-or-two x)

@@ -2,7 +2,7 @@
 -- one would share a unit's length with it at least, and two runs of one period that do so are one. So the number of a block's run, and whether a piece lies in
 -- the run with a number, can be told from that last run alone. By induction on the records for the last that passes a test. Assumes nothing.
 use mathlib.Core.Path.{_≡_, refl, sym, ap, _∙_, subst}
-use mathlib.Core.Logic.{_↔_, inl, inr}
+use mathlib.Core.Logic.{_↔_}
 use mathlib.Core.Bool.{Bool, true, false, cond, _&&_}
 use mathlib.Core.List.{List, [], _∷_, _++_}
 use Prim.Native.Nat.{ℕ, zero, suc, _+_, _-_, _*_, _≤_}
@@ -14,11 +14,11 @@ use Rattle.laws.proofs.Tests.{and-intro, and-left, and-right, same-tests}
 use Rattle.periods.specs.Period.{part, smallestPeriod, Repetition, repetition?}
 use Rattle.periods.proofs.InPlace.{symbol}
 use Rattle.runs.specs.declared.Record.{Record}
-use Rattle.runs.specs.Run.{Entry, Before, Sorted}
+use Rattle.runs.specs.Run.{Entry}
 use Rattle.runs.specs.Table.{runsOf}
 use Rattle.runs.specs.Number.{runNumber}
 use Rattle.runs.proofs.InPlace.{RunIn, run-in, run-unique}
-use Rattle.runs.proofs.Entries.{no-entry, entry-bounds, entry-same}
+use Rattle.runs.proofs.Entries.{no-entry, entry-bounds, sorted-first, entry-same}
 use Rattle.runs.proofs.Listed.{runs-listed}
 use Rattle.runs.proofs.Number.{Passes}
 use Rattle.factorizer.proofs.Pieces.{piece-sound, piece-complete}
@@ -86,21 +86,6 @@ module _ (t : Record → Bool) where
       go zero ih m e s E p = absurd E
       go (suc zero) ih m e s E p = first m (t r) (subst (λ (y : Record). T (t y)) (sym E) p)
       go (suc (suc i)) ih m e s E p = later i m (omega (arith, e, ih (suc i) record { row = s; entry = E; passed = p }))
-
--- ---- the firsts of a sorted list never fall
-
-before-first : (r s : Record) → Before r s → r .first ≤ s .first
-before-first r s (inl h) = omega arith
-before-first r s (inr h) = omega arith
-
-pub sorted-first : (xs : List Record) → Sorted xs → (i j : ℕ) (r s : Record) → Entry xs i r → Entry xs j s → i ≤ j → r .first ≤ s .first
-sorted-first xs S zero j r s h k l = absurd h
-sorted-first xs S (suc i) zero r s h k l = absurd k
-sorted-first [] S (suc i) (suc j) r s h k l = absurd h
-sorted-first (x ∷ xs) S (suc zero) (suc zero) r s h k l = omega (arith, ap (λ (y : Record). y .first) h, ap (λ (y : Record). y .first) k)
-sorted-first (x ∷ xs) S (suc zero) (suc (suc j)) r s h k l = before-first r s (subst (λ (y : Record). Before y s) h (S .0 (suc j) s k))
-sorted-first (x ∷ xs) S (suc (suc i)) (suc zero) r s h k l = absurd (omega arith)
-sorted-first (x ∷ xs) S (suc (suc i)) (suc (suc j)) r s h k l = sorted-first xs (S .1) (suc i) (suc j) r s h k (omega arith)
 
 -- ---- the last run with the unit of a piece that starts at or before it
 

@@ -3,7 +3,7 @@
 -- what is noted at it. By induction on the count of the records. Assumes nothing.
 use mathlib.Core.Path.{_≡_, refl, sym, ap, ap₂, _∙_, subst}
 use mathlib.Core.Bool.{Bool, cond, _&&_}
-use mathlib.Core.List.{List, _∷_, _++_}
+use mathlib.Core.List.{List}
 use Prim.Native.Nat.{ℕ, zero, suc, _+_, _-_, _*_, _≤_, _<_}
 use native.Mathlib.Omega.{arith}
 use native.Mathlib.Decide.{decLt, ℕ-discrete}
@@ -17,27 +17,19 @@ use Rattle.runs.specs.declared.Record.{Record}
 use Rattle.runs.specs.Run.{Entry, Sorted}
 use Rattle.runs.specs.Table.{runsOf, stride, recordAt, records}
 use Rattle.runs.proofs.InPlace.{run-in}
-use Rattle.runs.proofs.Entries.{entry-right}
+use Rattle.runs.proofs.Entries.{sorted-first}
 use Rattle.runs.proofs.Listed.{runs-listed}
 use Rattle.runs.proofs.Few.{table-at-most}
-use Rattle.runs.proofs.Records.{records-none, records-more, length-records, records-split}
+use Rattle.runs.proofs.Records.{records-none, records-more, length-records, record-entry}
 use Rattle.halves.specs.Scratch.{listed}
 use Rattle.halves.proofs.Records.{records-listed}
 use Rattle.paths.specs.LookUp.{lastNumber, hasPeriod, startsBy, latestNumber, Runs, Noted, NextLater}
 use Rattle.paths.specs.Calls.{segment?}
 use Rattle.paths.proofs.NumberLaws.{piece-by-unit}
 use Rattle.paths.proofs.PathJudgeClaims.{segment-given}
-use Rattle.paths.proofs.Latest.{last-none, last-more, sorted-first, in-run-latest}
+use Rattle.paths.proofs.Latest.{last-none, last-more, in-run-latest}
 
 -- ---- the records of a table that was listed
-
-pub record-entry : (rows : List ℕ) (k count : ℕ) → k < count → Entry (records count rows) (suc k) (recordAt rows k)
-record-entry rows k count h = go (records-split rows k count h)
-  where
-    go : (more : List Record) × (records count rows ≡ records k rows ++ (recordAt rows k ∷ more)) → Entry (records count rows) (suc k) (recordAt rows k)
-    go (more, e) =
-        let f : length (records k rows) + 1 ≡ suc k = omega (arith, length-records rows k) in
-        rw e (rw f at (entry-right (records k rows) (recordAt rows k ∷ more) 1 (recordAt rows k) refl))
 
 -- a run's period is at most the word's length
 run-period : (w : List ℕ) (i : ℕ) (r : Record) → Entry (runsOf w) i r → r .period ≤ length w

@@ -1,11 +1,11 @@
 -- The editions: which numbers the test takes for one, and what their turn numbers are. By cases on the number. Assumes nothing.
-use mathlib.Core.Path.{_≡_, refl, sym, _∙_, subst}
-use mathlib.Core.Bool.{Bool, true, false, cond, true≢false}
+use mathlib.Core.Path.{_≡_, refl, sym, subst}
+use mathlib.Core.Bool.{Bool, true, false, cond}
 use Prim.Native.Nat.{ℕ, _*_, _≤_}
 use native.Mathlib.Omega.{arith}
 use native.Mathlib.Nat.{mul-le-mul-right}
 use lib.Dec.{eqb}
-use Rattle.laws.proofs.OneOrTwo.{one-or-two?, test-of-one-or-two, test-of-other}
+use Rattle.laws.proofs.OneOrTwo.{one-or-two?, test-of-one-or-two, test-of-other, one-or-two-by-test, other-by-test}
 use Rattle.periods.specs.Edition.{Edition, turnsOf, badEdition?, Turns}
 
 -- CLAIM: edition 1 has two turns, edition 2 has three
@@ -51,11 +51,9 @@ test-of-no-edition e h = test-of-other e h
 
 -- and so the code's test says which it is
 pub edition-by-test : (e : ℕ) → badEdition? e ≡ false → Edition e
-edition-by-test e h = go (edition? e)
-  where
-    go : Dec (Edition e) → Edition e
-    go (yes x) = x
-    go (no x) = absurd (true≢false (sym (test-of-no-edition e x) ∙ h))
+unfolding badEdition?
+edition-by-test e h = one-or-two-by-test e h
 
 pub no-edition-by-test : (e : ℕ) → badEdition? e ≡ true → Edition e → ⊥
-no-edition-by-test e h x = true≢false (sym h ∙ test-of-edition e x)
+unfolding badEdition?
+no-edition-by-test e h x = other-by-test e h x

@@ -9,7 +9,6 @@ use Prim.Native.Nat.{ℕ, zero, suc, _+_, _-_, _*_, _/_, _%_, _≤_, _<_}
 use native.Mathlib.Omega.{arith}
 use native.Mathlib.Decide.{decLt}
 use native.Mathlib.Nat.{suc-mul, mul-left-comm, div-add-mod', mod-lt, mul-mod-left}
-use borrow.Author.Tests.{eq-eqb, ne-eqb}
 use lib.Dec.{T, eqb, ltb, eqb→eq, eqb-refl, ltb→lt, lt→ltb}
 use lib.ListN.{length, getD, take, drop, length-take, length-drop, length-append, take-append-drop, List·getD-append}
 use lib.Seq.{getD-take, getD-drop, getD-append-add, ext-getD}
@@ -137,18 +136,6 @@ module _ (s : List ℕ) where
       go : (t : Bool) → square? s ≡ t → false ≡ t
       go true e = absurd (none (square-sound (subst T (sym e) tt)))
       go false e = refl
-
-  -- the test, by the unit
-  pub square-by-unit : 0 < length s → square? s ≡ eqb (length s % (twice * smallestPeriod s)) 0
-  square-by-unit l = go (square? s) refl
-    where
-      U : SmallestPeriod s (smallestPeriod s)
-      U = smallest-period-is s l
-
-      go : (t : Bool) → square? s ≡ t → t ≡ eqb (length s % (twice * smallestPeriod s)) 0
-      go true e = sym (eq-eqb (length s % (twice * smallestPeriod s)) 0 (square-unit (smallestPeriod s) U (square-sound (subst T (sym e) tt))))
-      go false e =
-          sym (ne-eqb (length s % (twice * smallestPeriod s)) 0 (λ z. subst T e (square-complete (unit-square (smallestPeriod s) U z))))
 
 -- a square has two turns of its unit or more
 pub square-repeats : (s : List ℕ) → Square s → Repetition anyPeriod twice s

@@ -30,7 +30,7 @@ pub fn best_split(
     if periods::bad_edition(edition) {
         return Counted::Refused(Refusal::BadEdition);
     }
-    factorizer::inner::best(w, factorizer::rule_of(edition), choice, ends, work)
+    factorizer::inner::best(w, periods::turns(edition), choice, ends, work)
 }
 
 // Judge a split: accepted, with the number of blocks, exactly when the ends are those of a

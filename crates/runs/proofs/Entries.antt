@@ -63,6 +63,20 @@ entry-same (x ∷ xs) S (suc (suc i)) (suc (suc j)) r s h k e f = ap suc (entry-
 pub entry-one-number : (xs : List Record) → Sorted xs → (i j : ℕ) (r : Record) → Entry xs i r → Entry xs j r → i ≡ j
 entry-one-number xs S i j r h k = entry-same xs S i j r r h k refl refl
 
+-- the firsts of a sorted list never fall
+before-first : (r s : Record) → Before r s → r .first ≤ s .first
+before-first r s (inl h) = omega arith
+before-first r s (inr h) = omega arith
+
+pub sorted-first : (xs : List Record) → Sorted xs → (i j : ℕ) (r s : Record) → Entry xs i r → Entry xs j s → i ≤ j → r .first ≤ s .first
+sorted-first xs S zero j r s h k l = absurd h
+sorted-first xs S (suc i) zero r s h k l = absurd k
+sorted-first [] S (suc i) (suc j) r s h k l = absurd h
+sorted-first (x ∷ xs) S (suc zero) (suc zero) r s h k l = omega (arith, ap (λ (y : Record). y .first) h, ap (λ (y : Record). y .first) k)
+sorted-first (x ∷ xs) S (suc zero) (suc (suc j)) r s h k l = before-first r s (subst (λ (y : Record). Before y s) h (S .0 (suc j) s k))
+sorted-first (x ∷ xs) S (suc (suc i)) (suc zero) r s h k l = absurd (omega arith)
+sorted-first (x ∷ xs) S (suc (suc i)) (suc (suc j)) r s h k l = sorted-first xs (S .1) (suc i) (suc j) r s h k (omega arith)
+
 -- an entry's number is from 1 to the length
 pub entry-bounds : (xs : List Record) (i : ℕ) (r : Record) → Entry xs i r → (1 ≤ i) × (i ≤ length xs)
 entry-bounds xs zero r h = absurd h

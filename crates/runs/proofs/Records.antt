@@ -9,7 +9,9 @@ use lib.ListN.{length, getD, drop, length-append}
 use lib.Seq.{sets}
 use Rattle.laws.proofs.Stores.{sets-front}
 use Rattle.runs.specs.declared.Record.{Record}
+use Rattle.runs.specs.Run.{Entry}
 use Rattle.runs.specs.Table.{stride, numbersOf, flat, records, recordAt}
+use Rattle.runs.proofs.Entries.{entry-right}
 use Rattle.runs.proofs.Rows.{length-flat}
 
 pub records-none : (t : List ℕ) → records 0 t ≡ []
@@ -64,3 +66,12 @@ records-split t i (suc c) h = go (λ k. records-split t i c k) (decLt i c)
           more ++ (recordAt t c ∷ []),
           ap (λ (l : List Record). l ++ (recordAt t c ∷ [])) e ∙ append-assoc (records i t) (recordAt t i ∷ more) (recordAt t c ∷ []),
         )
+
+-- a record as an entry, whose number is from 1
+pub record-entry : (rows : List ℕ) (k count : ℕ) → k < count → Entry (records count rows) (suc k) (recordAt rows k)
+record-entry rows k count h = go (records-split rows k count h)
+  where
+    go : (more : List Record) × (records count rows ≡ records k rows ++ (recordAt rows k ∷ more)) → Entry (records count rows) (suc k) (recordAt rows k)
+    go (more, e) =
+        let f : length (records k rows) + 1 ≡ suc k = omega (arith, length-records rows k) in
+        rw e (rw f at (entry-right (records k rows) (recordAt rows k ∷ more) 1 (recordAt rows k) refl))

@@ -3,6 +3,9 @@ ghost use mathlib.Core.Path.{_≡_};
 ghost use Rattle.answers.specs.Outcome.{countedView};
 ghost use Rattle.squares.specs.BestSquares.{squaresOutcome, squaresEnds, squaresWork, SquaresMeaning};
 ghost use Rattle.squares.specs.JudgeSquares.{squaresJudgedOutcome, SquaresJudgedMeaning};
+
+mod inner;
+
 use answers::Counted;
 use answers::Refusal;
 
@@ -10,7 +13,8 @@ use answers::Refusal;
 // Gives the size, and writes the ends of the factorization of that size whose last square is
 // longest, then the one before it, and so on. The working table afterwards holds the best size of
 // each prefix length. Refusals: 1, 8, 9, 2, 7; with n/2 places for the ends of n symbols 7 never
-// comes. Time: quadratic in the word's length at most. 350 bytes of stack, and 48 a square.
+// comes. Time: that of the runs, and a step for each run and each boundary in it. 67 KiB of stack, and
+// 48 bytes a square.
 pub fn best_squares(w: &[u8], choice: u32, ends: &mut [u32], work: &mut [u32]) -> Counted
     ensures answer { λ r. ⌜ countedView r ≡ squaresOutcome (now (w .entry)) choice (now (ends .entry)) (now (work .entry)) ⌝ }
     ensures written { λ r. ⌜ now (ends .exit) ≡ squaresEnds (now (w .entry)) choice (now (ends .entry)) (now (work .entry)) ⌝ }
@@ -20,7 +24,13 @@ pub fn best_squares(w: &[u8], choice: u32, ends: &mut [u32], work: &mut [u32]) -
     if answers::LIMIT < w.len() {
         return Counted::Refused(Refusal::TooLong);
     }
-    factorizer::inner::best(w, factorizer::square_rule(), choice, ends, work)
+    if factors::bad_choice(choice) {
+        return Counted::Refused(Refusal::BadChoice);
+    }
+    if work.len() < factors::ROWS * (w.len() + 1) {
+        return Counted::Refused(Refusal::ShortTable);
+    }
+    inner::settle(w, choice, ends, work)
 }
 
 // Judge squares: accepted, with the number of squares, exactly when the ends are those of a

@@ -353,54 +353,19 @@ fn offer(work: &mut [u32], choice: u32, at: usize, back: usize, size: u32, j: u3
     }
 }
 
-/// What may stand in a split: how many turns it has at least, how many symbols after a boundary are
-/// read for it, and whether a part of a length is one, where the turns of its unit have the length
-/// span.
-#[derive(Clone, Copy)]
-struct Rule<F> {
-    turns: usize,
-    window: usize,
-    fits: F,
-}
-
-/// A block is at least as long as its turns. One that is longer than the window goes on with a period
-/// of those that are read.
-fn blocks(turns: usize) -> Rule<impl Fn(usize, usize) -> bool + Copy> {
-    Rule {
-        turns,
-        window: turns * UNIT_MEMORY,
-        fits: |length, span| span <= length,
-    }
-}
-
-/// A square has two turns or so many times two, of a half of any length: all that follows is read.
-fn squares() -> Rule<impl Fn(usize, usize) -> bool + Copy> {
-    Rule {
-        turns: 2,
-        window: LIMIT,
-        fits: |length, span| length % span == 0,
-    }
-}
-
-fn spread<F: Fn(usize, usize) -> bool>(
-    work: &mut [u32],
-    n: usize,
-    rule: Rule<F>,
-    choice: u32,
-    j: usize,
-    len: usize,
-    size: u32,
-) {
+/// Offers a size from boundary j wherever a block from it ends in the next len symbols, whose units
+/// are in row 2. They never fall, so the first that is too long for any part ends the work.
+fn spread(work: &mut [u32], n: usize, turns: usize, choice: u32, j: usize, len: usize, size: u32) {
     let row = n + 1;
     let unit_row = row + row;
     let mut d = 0;
     while d < len {
-        let span = rule.turns * work[unit_row + d] as usize;
+        let span = turns * work[unit_row + d] as usize;
         if len < span {
             return;
         }
         d += 1;
-        if !(rule.fits)(d, span) {
+        if d < span {
             continue;
         }
         let m = j + d;
@@ -408,25 +373,24 @@ fn spread<F: Fn(usize, usize) -> bool>(
     }
 }
 
+/// How many symbols after a boundary are read at most. A block that is longer goes on with a period of
+/// those that are read.
+fn window(turns: usize) -> usize {
+    turns * UNIT_MEMORY
+}
+
 /// Offers a size from boundary j, if it is reached, wherever a block from it ends in the window. Gives
 /// the unit of the window, or what is known where the boundary is not reached.
-fn visit<F: Fn(usize, usize) -> bool>(
-    w: &[u8],
-    rule: Rule<F>,
-    choice: u32,
-    j: usize,
-    known: usize,
-    work: &mut [u32],
-) -> usize {
+fn visit(w: &[u8], turns: usize, choice: u32, j: usize, known: usize, work: &mut [u32]) -> usize {
     let size = work[j];
     if size == NONE {
         return known;
     }
     let n = w.len();
     let two = 2 * (n + 1);
-    let len = rule.window.min(n - j);
+    let len = window(turns).min(n - j);
     units(&w[j..j + len], &mut work[two..]);
-    spread(work, n, rule, choice, j, len, size + 1);
+    spread(work, n, turns, choice, j, len, size + 1);
     work[two + len - 1] as usize
 }
 
@@ -442,24 +406,150 @@ fn lengthen(w: &[u8], m: usize, period: usize, work: &mut [u32]) {
     work[row + m + 1] = work[row + m];
 }
 
-fn fill<F: Fn(usize, usize) -> bool + Copy>(
-    w: &[u8],
-    rule: Rule<F>,
-    choice: u32,
-    work: &mut [u32],
-) {
-    let n = w.len();
+/// The table before any block is offered: no prefix but the empty one has a size.
+fn start(work: &mut [u32], n: usize) {
     let row = n + 1;
-    let two = row + row;
     work[0] = 0;
     work[1..row].fill(NONE);
-    work[row..two].fill(0);
+    work[row..row + row].fill(0);
+}
+
+fn fill(w: &[u8], turns: usize, choice: u32, work: &mut [u32]) {
+    let n = w.len();
+    let two = 2 * (n + 1);
+    start(work, n);
     let mut unit = 0;
     for j in 0..n {
-        unit = visit(w, rule, choice, j, unit, work);
-        lengthen(w, j + rule.window, unit, work);
+        unit = visit(w, turns, choice, j, unit, work);
+        lengthen(w, j + window(turns), unit, work);
     }
     work[two..two + two].fill(0);
+}
+
+/// Fills the table for squares by the runs. Row 2 has slots, row 3 the runs that are not over.
+mod slots {
+    use super::{offer, start, NONE, STRIDE};
+    use std::cmp::Ordering;
+
+    /// The number by which sizes are compared: less is better, and none is worst.
+    fn rank(choice: u32, size: u32) -> u32 {
+        if choice == 1 || size == NONE {
+            return size;
+        }
+        NONE - 1 - size
+    }
+
+    /// Of two starts the one with the better size, of equal sizes the lower one.
+    fn preferred(work: &[u32], choice: u32, i: usize, k: usize) -> usize {
+        match rank(choice, work[i]).cmp(&rank(choice, work[k])) {
+            Ordering::Less => i,
+            Ordering::Greater => k,
+            Ordering::Equal => i.min(k),
+        }
+    }
+
+    /// The place where the best start for boundary e is kept, in a run that starts after boundary a
+    /// and has twice the unit two: one for each residue, at the first boundaries of the run.
+    fn slot_of(n: usize, a: usize, two: usize, e: usize) -> usize {
+        2 * (n + 1) + a + (e - a) % two
+    }
+
+    /// The best start of the squares in the run that end at boundary e: the one two before e, or the
+    /// best start for the boundary two before e, which stands in the slot.
+    fn lead(work: &[u32], n: usize, choice: u32, a: usize, two: usize, e: usize) -> usize {
+        let start = e - two;
+        if e - a < 2 * two {
+            return start;
+        }
+        let kept = work[slot_of(n, a, two, e)] as usize;
+        preferred(work, choice, kept, start)
+    }
+
+    /// Takes one run at boundary e: keeps its best start in the slot, and compares it with the best so
+    /// far.
+    fn take(
+        work: &mut [u32],
+        n: usize,
+        choice: u32,
+        a: usize,
+        two: usize,
+        e: usize,
+        best: usize,
+    ) -> usize {
+        if e - a < two {
+            return best;
+        }
+        let start = lead(work, n, choice, a, two, e);
+        let better = preferred(work, choice, best, start);
+        work[slot_of(n, a, two, e)] = start as u32;
+        better
+    }
+
+    /// Takes boundary e: every run in the list that is not over there, and then the best start of
+    /// all. Gives how many runs stay in the list.
+    fn visit(
+        n: usize,
+        runs: &[u32],
+        choice: u32,
+        e: usize,
+        lives: usize,
+        work: &mut [u32],
+    ) -> usize {
+        let low = 3 * (n + 1);
+        let mut best = e;
+        let mut kept = 0;
+        for k in 0..lives {
+            let i = work[low + k];
+            let at = STRIDE * i as usize;
+            let run = &runs[at..at + STRIDE];
+            if (run[1] as usize) < e {
+                continue;
+            }
+            work[low + kept] = i;
+            kept += 1;
+            let (a, two) = (run[0] as usize - 1, 2 * run[2] as usize);
+            best = take(work, n, choice, a, two, e, best);
+        }
+        let size = work[best];
+        if size != NONE {
+            offer(work, choice, e, n + 1 + e, size + 1, best as u32);
+        }
+        kept
+    }
+
+    /// Adds the runs that start at position e at the latest to the list of those that are not over.
+    /// Gives the number of the next run.
+    fn admit(
+        work: &mut [u32],
+        runs: &[u32],
+        n: usize,
+        count: usize,
+        e: usize,
+        next: usize,
+        lives: usize,
+    ) -> usize {
+        let low = 3 * (n + 1) + lives;
+        for i in next..count {
+            if e < runs[STRIDE * i] as usize {
+                return i;
+            }
+            work[low + (i - next)] = i as u32;
+        }
+        count
+    }
+
+    pub fn fill(n: usize, runs: &[u32], count: usize, choice: u32, work: &mut [u32]) {
+        let two = 2 * (n + 1);
+        start(work, n);
+        let (mut next, mut lives) = (0, 0);
+        for e in 1..=n {
+            let upto = admit(work, runs, n, count, e, next, lives);
+            lives += upto - next;
+            next = upto;
+            lives = visit(n, runs, choice, e, lives, work);
+        }
+        work[two..two + two].fill(0);
+    }
 }
 
 fn write_ends(prev: &[u32], j: usize, count: usize, ends: &mut [u32]) {
@@ -471,41 +561,20 @@ fn write_ends(prev: &[u32], j: usize, count: usize, ends: &mut [u32]) {
     write_ends(prev, prev[j] as usize, at, ends);
 }
 
-pub fn best_split(
-    w: &[u8],
-    edition: u32,
-    choice: u32,
-    ends: &mut [u32],
-    work: &mut [u32],
-) -> Answer<u32> {
-    if LIMIT < w.len() {
-        return Err((1, 0));
-    }
-    best(w, blocks(turns_of(edition)?), choice, ends, work)
-}
-
-pub fn best_squares(w: &[u8], choice: u32, ends: &mut [u32], work: &mut [u32]) -> Answer<u32> {
-    if LIMIT < w.len() {
-        return Err((1, 0));
-    }
-    best(w, squares(), choice, ends, work)
-}
-
-fn best<F: Fn(usize, usize) -> bool + Copy>(
-    w: &[u8],
-    rule: Rule<F>,
-    choice: u32,
-    ends: &mut [u32],
-    work: &mut [u32],
-) -> Answer<u32> {
-    let n = w.len();
+/// Refusals 8 and 9 of a call for a best split.
+fn choosable(n: usize, choice: u32, work: &[u32]) -> Answer<()> {
     if choice != 1 && choice != 2 {
         return Err((8, 0));
     }
     if work.len() < 4 * (n + 1) {
         return Err((9, 0));
     }
-    fill(w, rule, choice, work);
+    Ok(())
+}
+
+/// Answers from a filled table, writes the ends where there is a split and room for them, and clears
+/// the row of previous boundaries.
+fn finish(n: usize, ends: &mut [u32], work: &mut [u32]) -> Answer<u32> {
     let size = work[n];
     let row = n + 1;
     let answer = if size == NONE {
@@ -518,6 +587,42 @@ fn best<F: Fn(usize, usize) -> bool + Copy>(
     };
     work[row..row + row].fill(0);
     answer
+}
+
+pub fn best_split(
+    w: &[u8],
+    edition: u32,
+    choice: u32,
+    ends: &mut [u32],
+    work: &mut [u32],
+) -> Answer<u32> {
+    if LIMIT < w.len() {
+        return Err((1, 0));
+    }
+    let turns = turns_of(edition)?;
+    choosable(w.len(), choice, work)?;
+    fill(w, turns, choice, work);
+    finish(w.len(), ends, work)
+}
+
+/// Lists the runs, with the four rows of the working table for scratch, and fills these by them.
+fn fill_squares(w: &[u8], choice: u32, records: &mut [u32], work: &mut [u32]) {
+    let n = w.len();
+    let count = list(w, &mut work[..ROWS * (n + 1)], records);
+    slots::fill(n, records, count, choice, work);
+}
+
+pub fn best_squares(w: &[u8], choice: u32, ends: &mut [u32], work: &mut [u32]) -> Answer<u32> {
+    if LIMIT < w.len() {
+        return Err((1, 0));
+    }
+    choosable(w.len(), choice, work)?;
+    if w.len() <= SHORT {
+        fill_squares(w, choice, &mut [0; STRIDE * SHORT], work);
+    } else {
+        fill_squares(w, choice, &mut [0; STRIDE * LIMIT], work);
+    }
+    finish(w.len(), ends, work)
 }
 
 /// The turns of the edition and the places that two words need, where neither call refuses yet.
@@ -537,7 +642,7 @@ fn admit(a: &[u8], b: &[u8], edition: u32, work: &[u32]) -> Answer<(usize, usize
 pub fn which_first(a: &[u8], b: &[u8], edition: u32, work: &mut [u32]) -> Answer<u32> {
     let (turns, places) = admit(a, b, edition, work)?;
     let sizes = [a, b].map(|w| {
-        fill(w, blocks(turns), 1, work);
+        fill(w, turns, 1, work);
         work[w.len()]
     });
     work[..places].fill(0);
@@ -563,7 +668,7 @@ pub fn first_block(a: &[u8], b: &[u8], edition: u32, work: &mut [u32]) -> [u32; 
     };
     let found = [a, b].map(|w| {
         let row = w.len() + 1;
-        fill(w, blocks(turns), 1, work);
+        fill(w, turns, 1, work);
         (work[w.len()], first_end(&work[row..row + row], w.len()))
     });
     work[..places].fill(0);

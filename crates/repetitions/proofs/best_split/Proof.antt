@@ -1,16 +1,24 @@
 -- `repetitions::best_split` meets its contract: each way out is the case of the definitions that its tests lead to, and `best-means` says what that means.
 -- Assumes nothing.
-use mathlib.Core.Path.{sym, _∙_, subst}
+use mathlib.Core.Path.{_≡_, sym, _∙_, subst}
+use mathlib.Core.List.{List}
+use Prim.Native.Nat.{ℕ}
 use native.Mathlib.Omega.{arith}
 use borrow.Author.Needs.{needs}
-use Rattle.periods.proofs.Editions.{edition-by-test, no-edition-by-test}
-use Rattle.factorizer.specs.declared.Rule.{Rule}
-use Rattle.factorizer.specs.Rule.{Ruled, ruleOf}
-use Rattle.factorizer.proofs.Rules.{edition-ruled}
-use Rattle.factorizer.proofs.BestClaims.{given-by-rule}
+use Rattle.answers.specs.Outcome.{Outcome}
+use Rattle.periods.specs.Period.{repetition?, heldPeriod}
+use Rattle.periods.specs.Edition.{turnsOf}
+use Rattle.periods.proofs.Editions.{turns-given, edition-by-test, no-edition-by-test}
+use Rattle.factorizer.proofs.BestClaims.{ChosenGiven, Ensured, chosen-given}
 use Rattle.repetitions.proofs.BestClaims.{promised-long, promised-bad-edition, promised-chosen, best-answered}
 use Rattle.repetitions.proofs.best_split.Statement.{statement}
 use Rattle.repetitions.proofs.best_split.Tie as tie
+
+-- what `best` ensures, for the blocks of the edition
+chosen-so : (edition k : ℕ) → k ≡ turnsOf edition → (w : List ℕ) (choice : ℕ) (e t : List ℕ) (o : Outcome) (x y : List ℕ)
+    → Ensured (repetition? heldPeriod k) w choice e t o x y → ChosenGiven (repetition? heldPeriod (turnsOf edition)) w choice e t o x y
+chosen-so edition k q w choice e t o x y E =
+    subst (λ (z : ℕ). ChosenGiven (repetition? heldPeriod z) w choice e t o x y) q (chosen-given (repetition? heldPeriod k) w choice e t o x y E)
 
 returns : tie.Need-returns
 returns c =
@@ -26,13 +34,11 @@ returns-2 c =
     best-answered (g .w .now) (g .edition) (g .choice) (g .ends .now) (g .work .now) _ _ _
     (promised-bad-edition (g .w .now) (g .edition) (g .choice) (g .ends .now) (g .work .now) (omega arith) (no-edition-by-test (g .edition) (sym (c .before .bad-edition .ensures) ∙ c .if2 .taken)))
 
-rule-of-requires : tie.Need-rule-of-requires
-rule-of-requires c κs = search needs
+turns-requires : tie.Need-turns-requires
+turns-requires c κs = search needs
 
 best-requires : tie.Need-best-requires
-best-requires c κs =
-    let g = c .before .before .before .before .before .before .before .before .before .args in
-    (omega arith, subst (λ (r : Rule). Ruled (r .square) (r .turns)) (sym (c .before .before .rule-of .ensures)) (edition-ruled (g .edition)))
+best-requires c κs = (omega arith, turns-given (c .before .before .before .before .before .before .before .before .before .args .edition) _ (c .before .before .turns .ensures))
 
 same-length : tie.Need-same-length
 same-length c = search needs
@@ -46,7 +52,7 @@ returns-3 c =
     let known = edition-by-test (g .edition) (sym (c .before .before .before .before .before .before .before .before .before .bad-edition .ensures) ∙ c .before .before .before .before .before .before .before .before .if2 .left) in
     best-answered (g .w .now) (g .edition) (g .choice) (g .ends .now) (g .work .now) _ _ _
     (promised-chosen (g .w .now) (g .edition) (g .choice) (g .ends .now) (g .work .now) (omega arith) known _ _ _
-    (given-by-rule _ (ruleOf (g .edition)) (c .before .before .before .before .before .before .before .rule-of .ensures) _ _ _ _ _ _ _ (c .before .before .before .before .best .ensures)))
+    (chosen-so (g .edition) _ (c .before .before .before .before .before .before .before .turns .ensures) (g .w .now) (g .choice) (g .ends .now) (g .work .now) _ _ _ (c .before .before .before .before .best .ensures)))
 
 pub best-split-spec : {M : Type 1} → statement M
-best-split-spec = tie.close (tie.spec returns bad-edition-requires returns-2 rule-of-requires best-requires same-length same-length-2 returns-3)
+best-split-spec = tie.close (tie.spec returns bad-edition-requires returns-2 turns-requires best-requires same-length same-length-2 returns-3)

@@ -7,7 +7,6 @@ use Rattle.periods.specs.Edition.{Turns}
 use Rattle.factorizer.specs.declared.Rule.{Rule}
 use Rattle.factorizer.specs.Rule.{blockBy}
 use Rattle.factorizer.specs.Judge.{pieceVerdict}
-use Rattle.factorizer.proofs.Rules.{square-ruled}
 use Rattle.squares.proofs.CallClaims.{squares-judged-too-long, squares-judged-fine, squares-judged-answered}
 use Rattle.squares.proofs.judge_squares.Statement.{statement}
 use Rattle.squares.proofs.judge_squares.Tie as tie
@@ -19,7 +18,7 @@ square-rule-requires : tie.Need-square-rule-requires
 square-rule-requires c κs = search needs
 
 judge-requires : tie.Need-judge-requires
-judge-requires c κs = (omega arith, subst (λ (r : Rule). Turns (r .turns)) (sym (c .square-rule .ensures)) (square-ruled .0))
+judge-requires c κs = (omega arith, subst (λ (r : Rule). Turns (r .turns)) (sym (c .square-rule .ensures)) (omega arith, omega arith))
 
 returns-2 : tie.Need-returns-2
 returns-2 c =

@@ -1,51 +1,47 @@
 -- `factorizer::inner::fill` meets its contract: its loop keeps `Windowed` of specs/Window.antt. Assumes nothing.
 use mathlib.Core.Path.{refl, sym, ap, _∙_, subst}
-use mathlib.Core.Bool.{Bool}
 use mathlib.Core.List.{List}
 use Prim.Native.Nat.{ℕ, _+_, _-_, _≤_}
 use native.Mathlib.Omega.{arith}
 use borrow.Author.Needs.{needs}
 use lib.ListN.{length}
+use Rattle.periods.specs.Period.{repetition?, heldPeriod}
 use Rattle.factors.specs.Factorization.{Choice, choiceOf}
 use Rattle.factors.proofs.Lent.{lent, lent-length}
 use Rattle.factorizer.specs.Piece.{piece?}
-use Rattle.factorizer.specs.Rule.{kind?}
 use Rattle.factorizer.specs.Window.{windowOf, Windowed, RestKept}
 use Rattle.factorizer.proofs.FillLaws.{second, fourth, zeros-length, begun-from, begun-kept, filled-from}
-use Rattle.factorizer.proofs.Windows.{window-holds, window-most, windowed-starts}
+use Rattle.factorizer.proofs.Windows.{windowed-starts}
 use Rattle.factorizer.proofs.Passing.{lengthens}
 use Rattle.factorizer.proofs.inner.fill.Statement.{statement}
 use Rattle.factorizer.proofs.inner.fill.Tie as tie
 
 abbrev Inv-loop : tie.InvT-loop
-Inv-loop w rule choice work₀ n row two window unit₀ j₀ work unit j =
-    (j ≤ n) × Windowed (choiceOf choice) (piece? (kind? (rule .square) (rule .turns)) w) w (windowOf (rule .square) (rule .turns)) j j unit work × RestKept (length w) work₀ work
+Inv-loop w turns choice work₀ n row two window unit₀ j₀ work unit j =
+    (j ≤ n) × Windowed (choiceOf choice) (piece? (repetition? heldPeriod turns) w) w (windowOf turns) j j unit work × RestKept (length w) work₀ work
 
 abbrev μ-loop : tie.MeasureT-loop
-μ-loop w rule choice work₀ n row two window unit₀ j₀ work unit j = n - j
+μ-loop w turns choice work₀ n row two window unit₀ j₀ work unit j = n - j
 
 -- in a turn of the loop: the arguments, and the table when the loop began
 abbrev Turn : Type 0
 Turn = tie.At-loop Inv-loop μ-loop
 
 abbrev word : Turn → List ℕ
-word c = c .before .before .before .before .before .before .before .before .before .before .before .before .args .w .now
+word c = c .before .before .before .before .before .before .before .before .before .before .before .args .w .now
 
 abbrev chosen : Turn → Choice
-chosen c = choiceOf (c .before .before .before .before .before .before .before .before .before .before .before .before .args .choice)
-
-abbrev square : Turn → Bool
-square c = c .before .before .before .before .before .before .before .before .before .before .before .before .args .rule .square
+chosen c = choiceOf (c .before .before .before .before .before .before .before .before .before .before .before .args .choice)
 
 abbrev turns : Turn → ℕ
-turns c = c .before .before .before .before .before .before .before .before .before .before .before .before .args .rule .turns
+turns c = c .before .before .before .before .before .before .before .before .before .before .before .args .turns
 
 abbrev entered : Turn → List ℕ
-entered c = c .before .before .before .before .before .before .before .before .before .before .before .before .args .work .now
+entered c = c .before .before .before .before .before .before .before .before .before .before .before .args .work .now
 
-first-kept : (c : Turn) → RestKept (length (word c)) (entered c) (lent (c .before .before .before .before .before .before .before .before .start .last .0) (length (word c) + 1) (second (length (word c))) (c .before .before .before .before .clear .last .0))
+first-kept : (c : Turn) → RestKept (length (word c)) (entered c) (lent (c .before .before .before .before .before .before .before .start .last .0) (length (word c) + 1) (second (length (word c))) (c .before .before .before .clear .last .0))
 first-kept c =
-    subst (RestKept (length (word c)) (entered c)) (sym (begun-from (word c) (entered c) _ _ (c .before .before .before .before .before .before .before .before .start .ensures) (c .before .before .before .before .clear .ensures)))
+    subst (RestKept (length (word c)) (entered c)) (sym (begun-from (word c) (entered c) _ _ (c .before .before .before .before .before .before .before .start .ensures) (c .before .before .before .clear .ensures)))
     (begun-kept (word c) (entered c) (omega arith))
 
 kept : (c : Turn) → RestKept (length (word c)) (entered c) (c .loop .work)
@@ -75,32 +71,32 @@ part-clear-end c = search needs
 clear-requires : tie.Need-clear-requires Inv-loop μ-loop
 clear-requires c κs = search needs
 
-window-requires : tie.Need-window-requires Inv-loop μ-loop
-window-requires c κs = search needs
+mul-window : tie.Need-mul-window Inv-loop μ-loop
+mul-window c = search needs
 
 loop-holds : tie.Need-loop-holds Inv-loop μ-loop
 loop-holds c =
-    let g = c .before .before .before .before .before .before .before .before .before .before .before .args in (
+    let g = c .before .before .before .before .before .before .before .before .before .before .args in (
       omega arith,
-      subst (Windowed (choiceOf (g .choice)) (piece? (kind? (g .rule .square) (g .rule .turns)) (g .w .now)) (g .w .now) (windowOf (g .rule .square) (g .rule .turns)) 0 0 0)
-          (sym (begun-from (g .w .now) (g .work .now) _ _ (c .before .before .before .before .before .before .before .start .ensures) (c .before .before .before .clear .ensures)))
-          (windowed-starts (choiceOf (g .choice)) (piece? (kind? (g .rule .square) (g .rule .turns)) (g .w .now)) (g .w .now) (g .work .now) (windowOf (g .rule .square) (g .rule .turns)) (omega arith)),
+      subst (Windowed (choiceOf (g .choice)) (piece? (repetition? heldPeriod (g .turns)) (g .w .now)) (g .w .now) (windowOf (g .turns)) 0 0 0)
+          (sym (begun-from (g .w .now) (g .work .now) _ _ (c .before .before .before .before .before .before .start .ensures) (c .before .before .clear .ensures)))
+          (windowed-starts (choiceOf (g .choice)) (piece? (repetition? heldPeriod (g .turns)) (g .w .now)) (g .w .now) (g .work .now) (windowOf (g .turns)) (omega arith)),
       (refl, refl),
     )
 
 visit-requires : tie.Need-visit-requires Inv-loop μ-loop
 visit-requires c κs =
     let t = c .before .before in
-    (((omega arith, omega (arith, kept t .0)), t .before .before .before .before .before .before .before .before .before .before .before .before .pre .1, omega arith), t .loop .inv .1)
+    (((omega arith, omega (arith, kept t .0)), t .before .before .before .before .before .before .before .before .before .before .before .pre .1, omega arith), t .loop .inv .1)
 
 add-lengthen : tie.Need-add-lengthen Inv-loop μ-loop
-add-lengthen c = omega (arith, c .before .before .before .before .before .before .window .ensures, window-most (square (c .before .before .before .before .before)) (turns (c .before .before .before .before .before)) (c .before .before .before .before .before .before .before .before .before .before .before .before .before .before .before .before .before .pre .1 .0))
+add-lengthen c = search needs
 
 lengthen-requires : tie.Need-lengthen-requires Inv-loop μ-loop
 lengthen-requires c κs =
     let t = c .before .before .before .before .before .before in
     let v = c .before .before .before .visit in
-    ((omega arith, omega (arith, v .ensures .1 .0, kept t .0)), omega (arith, v .ensures .0 .fits, t .before .window .ensures, window-holds (square t) (turns t) (t .before .before .before .before .before .before .before .before .before .before .before .before .pre .1 .0)))
+    ((omega arith, omega (arith, v .ensures .1 .0, kept t .0)), omega (arith, v .ensures .0 .fits, t .before .before .before .before .before .before .before .before .before .before .before .pre .1 .0))
 
 add-j : tie.Need-add-j Inv-loop μ-loop
 add-j c = omega arith
@@ -113,8 +109,7 @@ loop-again c =
     let t = c .before .before .before .before .before .before .before .before .before in
     let v = c .before .before .before .before .before .before .visit in
     let l = c .before .before .lengthen in
-    let p = lengthens (chosen t) (square t) (turns t) (t .before .before .before .before .before .before .before .before .before .before .before .before .pre .1 .0) (word t) (t .before .before .before .before .before .before .before .before .before .before .before .before .pre .0 .0) (t .loop .j) (v .result) _ (omega (arith, v .ensures .1 .0, kept t .0, t .before .before .before .before .before .before .before .before .before .before .before .before .pre .0 .1)) (t .before .window .result) _
-    (t .before .window .ensures) (v .ensures .0) (l .ensures) in
+    let p = lengthens (chosen t) (turns t) (t .before .before .before .before .before .before .before .before .before .before .before .pre .1) (word t) (t .loop .j) (v .result) _ (omega (arith, v .ensures .1 .0, kept t .0, t .before .before .before .before .before .before .before .before .before .before .before .pre .0 .1)) _ (v .ensures .0) (l .ensures) in
     (omega arith, p .0, (p .1 .0 ∙ v .ensures .1 .0 ∙ t .loop .inv .2 .0, p .1 .1 ∙ v .ensures .1 .1 ∙ t .loop .inv .2 .1))
 
 add-four : tie.Need-add-four Inv-loop μ-loop
@@ -149,7 +144,7 @@ returns c =
     let t = c .before .before .before .before .before in
     let n = length (word t) in
     ap (lent (t .loop .work) (second n) (fourth n)) (c .before .before .clear2 .ensures)
-    ∙ filled-from (chosen t) (piece? (kind? (square t) (turns t)) (word t)) (word t) (entered t) (t .loop .work) (omega arith) (kept t) (λ m h. t .loop .inv .1 .upto m h (omega arith))
+    ∙ filled-from (chosen t) (piece? (repetition? heldPeriod (turns t)) (word t)) (word t) (entered t) (t .loop .work) (omega arith) (kept t) (λ m h. t .loop .inv .1 .upto m h (omega arith))
 
 pub fill-spec : {M : Type 1} → statement M
 fill-spec =
@@ -165,7 +160,7 @@ fill-spec =
     part-clear-start
     part-clear-end
     clear-requires
-    window-requires
+    mul-window
     loop-holds
     visit-requires
     add-lengthen

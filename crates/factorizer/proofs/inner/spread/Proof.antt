@@ -1,36 +1,34 @@
 -- `factorizer::inner::spread` meets its contract: its loop is the fold `spread`, and where it stops early no later unit is short enough, since units never
 -- fall. Assumes nothing.
-use mathlib.Core.Path.{_≡_, sym, ap, _∙_}
+use mathlib.Core.Path.{_≡_, ap, _∙_}
 use mathlib.Core.Bool.{Bool}
 use mathlib.Core.List.{List}
 use Prim.Native.Nat.{ℕ, _+_, _-_, _*_, _<_, _≤_}
 use native.Mathlib.Omega.{arith}
 use native.Mathlib.Nat.{mul-le-mul-left}
-use borrow.Author.Tests.{not-true, not-false}
+use borrow.Author.Tests.{le-leb, lt-leb}
 use lib.ListN.{length, getD}
 use Rattle.periods.proofs.Editions.{turns-below}
 use Rattle.factors.specs.Factorization.{choiceOf}
 use Rattle.factors.specs.Table.{spread}
 use Rattle.factors.proofs.Filling.{spread-none, spread-takes, spread-passes, spread-rest, length-spread, spread-past}
-use Rattle.factorizer.specs.Rule.{spanTest}
 use Rattle.factorizer.specs.Fill.{unitAt, endsBlock}
-use Rattle.factorizer.proofs.Rules.{too-short, turns-some}
 use Rattle.factorizer.proofs.inner.spread.Statement.{statement}
 use Rattle.factorizer.proofs.inner.spread.Tie as tie
 
 abbrev Inv-loop : tie.InvT-loop
-Inv-loop work₀ n rule choice j len size row units d₀ work d =
-    (d ≤ len) × (work ≡ spread (choiceOf choice) n j size (endsBlock (rule .square) (rule .turns) n work₀) d work₀)
+Inv-loop work₀ n turns choice j len size row units d₀ work d =
+    (d ≤ len) × (work ≡ spread (choiceOf choice) n j size (endsBlock turns n work₀) d work₀)
 
 abbrev μ-loop : tie.MeasureT-loop
-μ-loop work₀ n rule choice j len size row units d₀ work d = len - d
+μ-loop work₀ n turns choice j len size row units d₀ work d = len - d
 
 -- in a turn of the loop: the test of the parts, and the unit of the next one
 abbrev Turn : Type 0
 Turn = tie.At-loop Inv-loop μ-loop
 
 abbrev test : Turn → ℕ → Bool
-test c = let g = c .before .before .args in endsBlock (g .rule .square) (g .rule .turns) (g .n) (g .work .now)
+test c = let g = c .before .before .args in endsBlock (g .turns) (g .n) (g .work .now)
 
 abbrev unit : Turn → ℕ
 unit c = unitAt (c .before .before .args .n) (c .before .before .args .work .now) (c .loop .d)
@@ -51,12 +49,8 @@ unit-read c h =
     ∙ spread-past (choiceOf (g .choice)) (g .n) (g .j) (g .size) (test c) (g .work .now) (c .loop .d) (g .n + 1 + (g .n + 1) + c .loop .d) (omega arith) (omega arith)
 
 -- so many turns of the unit that is read
-span-read : (c : Turn) → more c → c .before .before .args .rule .turns * unitAt (c .before .before .args .n) (c .loop .work) (c .loop .d) ≡ c .before .before .args .rule .turns * unit c
-span-read c h = ap (λ (u : ℕ). c .before .before .args .rule .turns * u) (unit-read c h)
-
--- what the call of the test says, of the units when the loop began
-ends-read : (c : Turn) → more c → (r : Bool) → r ≡ spanTest (c .before .before .args .rule .square) (c .loop .d + 1) (c .before .before .args .rule .turns * unitAt (c .before .before .args .n) (c .loop .work) (c .loop .d)) → test c (c .loop .d) ≡ r
-ends-read c h r e = sym (e ∙ ap (spanTest (c .before .before .args .rule .square) (c .loop .d + 1)) (span-read c h))
+span-read : (c : Turn) → more c → c .before .before .args .turns * unitAt (c .before .before .args .n) (c .loop .work) (c .loop .d) ≡ c .before .before .args .turns * unit c
+span-read c h = ap (λ (u : ℕ). c .before .before .args .turns * u) (unit-read c h)
 
 add-row : tie.Need-add-row Inv-loop μ-loop
 add-row c = omega arith
@@ -81,45 +75,39 @@ cast-span c = omega (arith, c .slice-known2 .given (c .before .before .before .b
 
 mul-span-2 : tie.Need-mul-span-2 Inv-loop μ-loop
 mul-span-2 c =
-    let t = c .before .before .before in
+    let t = c .before .before in
     let g = t .before .before .args in
     let i = g .n + 1 + (g .n + 1) + t .loop .d in
-    omega (arith, c .before .slice-known2 .given i, turns-below (g .rule .turns) (getD (t .loop .work) i 0) (t .before .before .pre .4))
+    omega (arith, c .slice-known2 .given i, turns-below (g .turns) (getD (t .loop .work) i 0) (t .before .before .pre .4))
 
 same-length : tie.Need-same-length Inv-loop μ-loop
-same-length c = long (c .before .before .before .before)
+same-length c = long (c .before .before .before)
 
 returns : tie.Need-returns Inv-loop μ-loop
 returns c =
-    let t = c .before .before .before .before in
+    let t = c .before .before .before in
     let g = t .before .before .args in
     let l = t .loop in
     let e : l .d + (g .len - l .d) ≡ g .len = omega arith in
     l .inv .1
     ∙ spread-rest (choiceOf (g .choice)) (g .n) (g .j) (g .size) (test t) (g .work .now) (l .d) (g .len - l .d)
-    (λ i x y. too-short (g .rule .square) (i + 1) (g .rule .turns * unitAt (g .n) (g .work .now) i) (omega arith)
-    (omega (arith, c .if1 .taken, span-read t (omega arith), mul-le-mul-left (g .rule .turns) (t .before .before .pre .3 .1 (l .d) i x (omega arith)))))
+    (λ i x y. lt-leb (g .turns * unitAt (g .n) (g .work .now) i) (i + 1)
+    (omega (arith, c .if1 .taken, span-read t (omega arith), mul-le-mul-left (g .turns) (t .before .before .pre .3 (l .d) i x (omega arith)))))
     ∙ ap (λ (x : ℕ). spread (choiceOf (g .choice)) (g .n) (g .j) (g .size) (test t) x (g .work .now)) e
 
 add-d : tie.Need-add-d Inv-loop μ-loop
 add-d c = omega arith
-
-ends-block-requires : tie.Need-ends-block-requires Inv-loop μ-loop
-ends-block-requires c κs =
-    let t = c .before .before .before .before in
-    let p = t .before .before .pre in
-    omega (arith, span-read t (omega arith), turns-some (t .before .before .args .rule .turns) (unit t) (p .4) (p .3 .0 (t .loop .d) (omega arith)))
 
 loop-less : tie.Need-loop-less Inv-loop μ-loop
 loop-less c = omega arith
 
 loop-again : tie.Need-loop-again Inv-loop μ-loop
 loop-again c =
-    let t = c .before .before .before .before .before .before in
+    let t = c .before .before .before .before in
     let g = t .before .before .args in (
       omega arith,
       t .loop .inv .1 ∙ spread-passes (choiceOf (g .choice)) (g .n) (g .j) (g .size) (test t) (g .work .now) (t .loop .d)
-          (ends-read t (omega arith) _ (c .before .ends-block .ensures) ∙ not-true _ (c .if2 .taken)),
+          (lt-leb (g .turns * unit t) (t .loop .d + 1) (omega (arith, c .if2 .taken, span-read t (omega arith)))),
     )
 
 add-m : tie.Need-add-m Inv-loop μ-loop
@@ -132,18 +120,18 @@ cast-offer : tie.Need-cast-offer Inv-loop μ-loop
 cast-offer c = omega arith
 
 offer-requires : tie.Need-offer-requires Inv-loop μ-loop
-offer-requires c κs = let t = c .before .before .before .before .before .before .before in (omega (arith, long t), omega (arith, long t))
+offer-requires c κs = let t = c .before .before .before .before .before in (omega (arith, long t), omega (arith, long t))
 
 loop-less-2 : tie.Need-loop-less-2 Inv-loop μ-loop
 loop-less-2 c = omega arith
 
 loop-again-2 : tie.Need-loop-again-2 Inv-loop μ-loop
 loop-again-2 c =
-    let t = c .before .before .before .before .before .before .before .before .before .before in
+    let t = c .before .before .before .before .before .before .before .before in
     let g = t .before .before .args in (
       omega arith,
       c .before .before .offer .ensures ∙ rw (t .loop .inv .1) (spread-takes (choiceOf (g .choice)) (g .n) (g .j) (g .size) (test t) (g .work .now) (t .loop .d)
-          (ends-read t (omega arith) _ (c .before .before .before .before .before .ends-block .ensures) ∙ not-false _ (c .before .before .before .before .if2 .left))),
+          (le-leb (g .turns * unit t) (t .loop .d + 1) (omega (arith, c .before .before .before .before .if2 .left, span-read t (omega arith))))),
     )
 
 same-length-2 : tie.Need-same-length-2 Inv-loop μ-loop
@@ -172,7 +160,6 @@ spread-spec =
     same-length
     returns
     add-d
-    ends-block-requires
     loop-less
     loop-again
     add-m

@@ -1,17 +1,15 @@
 -- `factorizer::inner::visit` meets its contract: each way out is a law of proofs/Visits.antt. Assumes nothing.
-use mathlib.Core.Path.{_≡_, refl, sym, ap, _∙_, subst}
+use mathlib.Core.Path.{_≡_, refl, sym, ap, subst}
 use mathlib.Core.Logic.{inl}
 use mathlib.Core.List.{List}
-use Prim.Native.Nat.{ℕ, min, _+_, _-_, _≤_}
+use Prim.Native.Nat.{ℕ, _+_, _-_, _≤_}
 use native.Mathlib.Omega.{arith}
 use borrow.Author.Needs.{needs}
 use lib.ListN.{length}
 use Rattle.factors.specs.Factorization.{choiceOf}
 use Rattle.factors.proofs.Lent.{lent}
 use Rattle.factorizer.specs.Fill.{UnitsRise}
-use Rattle.factorizer.specs.Window.{windowOf}
 use Rattle.factorizer.proofs.FillLaws.{second, third, laid, laid-from, laid-long, laid-rises}
-use Rattle.factorizer.proofs.Windows.{window-holds}
 use Rattle.factorizer.proofs.Visits.{visit-skips, given-offers}
 use Rattle.factorizer.proofs.inner.visit.Statement.{statement}
 use Rattle.factorizer.proofs.inner.visit.Tie as tie
@@ -21,22 +19,19 @@ abbrev Reached : Type 0
 Reached = tie.After-lesser
 
 abbrev word : Reached → List ℕ
-word c = c .before .before .before .before .before .before .args .w .now
+word c = c .before .before .before .before .before .args .w .now
 
 abbrev table : Reached → List ℕ
-table c = c .before .before .before .before .before .before .args .work .now
+table c = c .before .before .before .before .before .args .work .now
 
 abbrev boundary : Reached → ℕ
-boundary c = c .before .before .before .before .before .before .args .j
-
-count-is : (c : Reached) → c .lesser .result ≡ min (windowOf (c .before .before .before .before .before .before .args .rule .square) (c .before .before .before .before .before .before .args .rule .turns)) (length (word c) - boundary c)
-count-is c = c .lesser .ensures ∙ ap (λ (x : ℕ). min x (length (word c) - boundary c)) (c .before .window .ensures)
+boundary c = c .before .before .before .before .before .args .j
 
 -- at least one, and within the word
 count-bounds : (c : Reached) → (1 ≤ c .lesser .result) × (boundary c + c .lesser .result ≤ length (word c))
 count-bounds c =
-    let p = c .before .before .before .before .before .before .pre .0 in
-    (omega (arith, count-is c, p .2, window-holds (c .before .before .before .before .before .before .args .rule .square) (c .before .before .before .before .before .before .args .rule .turns) (p .1 .0)), omega (arith, count-is c, p .2))
+    let p = c .before .before .before .before .before .pre .0 in
+    (omega (arith, c .lesser .ensures, p .2, p .1 .0), omega (arith, c .lesser .ensures, p .2))
 
 -- the units of these symbols in row 2
 abbrev Read : Type 0
@@ -56,7 +51,7 @@ slice-read-size c = search needs
 returns : tie.Need-returns
 returns c =
     let g = c .before .before .before .before in
-    (visit-skips (choiceOf (g .args .choice)) (g .args .rule .square) (g .args .rule .turns) (g .pre .0 .1) (g .args .w .now) (omega arith) (g .args .j) (g .args .known) (g .args .work .now) (g .pre .0 .2) (g .pre .1) (c .if1 .taken), (refl, refl))
+    (visit-skips (choiceOf (g .args .choice)) (g .args .turns) (g .pre .0 .1) (g .args .w .now) (omega arith) (g .args .j) (g .args .known) (g .args .work .now) (g .pre .0 .2) (g .pre .1) (c .if1 .taken), (refl, refl))
 
 add-row : tie.Need-add-row
 add-row c = search needs
@@ -67,8 +62,8 @@ add-two c = search needs
 add-three : tie.Need-add-three
 add-three c = search needs
 
-window-requires : tie.Need-window-requires
-window-requires c κs = search needs
+mul-lesser : tie.Need-mul-lesser
+mul-lesser c = search needs
 
 sub-lesser : tie.Need-sub-lesser
 sub-lesser c = search needs
@@ -104,7 +99,7 @@ part-requires : tie.Need-part-requires
 part-requires c κs = search needs
 
 add-spread : tie.Need-add-spread
-add-spread c = omega (arith, c .before .before .before .before .before .before .before .if1 .left, c .before .before .before .before .before .before .before .before .slice-known2 .given (c .before .before .before .before .before .before .before .before .before .before .before .args .j))
+add-spread c = omega (arith, c .before .before .before .before .before .before .if1 .left, c .before .before .before .before .before .before .before .slice-known2 .given (c .before .before .before .before .before .before .before .before .before .before .args .j))
 
 rises : (r : Reached) → UnitsRise (length (word r)) (r .lesser .result) (laid (word r) (boundary r) (boundary r + r .lesser .result) (table r))
 rises r =
@@ -119,7 +114,7 @@ spread-requires c κs =
       count-bounds r .1,
       omega (arith, ap length e, laid-long (word r) (boundary r) (boundary r + r .lesser .result) (table r) (count-bounds r .1) (omega arith)),
       subst (UnitsRise (length (word r)) (r .lesser .result)) (sym e) (rises r),
-      r .before .before .before .before .before .before .pre .0 .1 .0,
+      r .before .before .before .before .before .pre .0 .1,
     )
 
 sub-result : tie.Need-sub-result
@@ -143,9 +138,9 @@ same-length c = search needs
 returns-2 : tie.Need-returns-2
 returns-2 c =
     let r = c .before .before .before .before .before .before .before .before .before in
-    let g = r .before .before .before .before .before .before in
-    given-offers (choiceOf (g .args .choice)) (g .args .rule .square) (g .args .rule .turns) (g .pre .0 .1) (g .args .w .now) (omega arith) (g .args .j) (g .args .known) (g .args .work .now) (g .pre .0 .2) (g .pre .1)
-    (omega arith) (c .before .before .before .before .before .before .before .before .before .before .before .if1 .left) (r .lesser .result) _ _ (count-is r) (laid-by (c .before .before .before .before .before .before .before)) (c .before .before .before .spread .ensures)
+    let g = r .before .before .before .before .before in
+    given-offers (choiceOf (g .args .choice)) (g .args .turns) (g .pre .0 .1) (g .args .w .now) (omega arith) (g .args .j) (g .args .known) (g .args .work .now) (g .pre .0 .2) (g .pre .1)
+    (omega arith) (c .before .before .before .before .before .before .before .before .before .before .if1 .left) (r .lesser .result) _ _ (r .lesser .ensures) (laid-by (c .before .before .before .before .before .before .before)) (c .before .before .before .spread .ensures)
 
 pub visit-spec : {M : Type 1} → statement M
 visit-spec =
@@ -157,7 +152,7 @@ visit-spec =
     add-row
     add-two
     add-three
-    window-requires
+    mul-lesser
     sub-lesser
     lesser-requires
     add-part

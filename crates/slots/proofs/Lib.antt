@@ -1,0 +1,12 @@
+pub mod Tops
+pub mod Collisions
+pub mod SquareRuns
+pub mod Cells
+pub mod Computed
+pub mod Tabled
+pub mod Turn
+pub mod Known
+pub mod Slotting
+pub mod Turns
+pub mod Taken
+pub mod Admitting

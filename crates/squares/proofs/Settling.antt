@@ -1,0 +1,25 @@
+-- What the finder of runs leaves is what the filling of the table goes by: its first records are the runs (`listed-runs`); and what it leaves in the four rows that it
+-- was lent does not count (`lent-filled`). Assumes nothing.
+use mathlib.Core.Path.{_≡_, refl, ap}
+use mathlib.Core.Bool.{Bool}
+use mathlib.Core.List.{List, _++_}
+use Prim.Native.Nat.{ℕ, _+_, _-_, _*_, _≤_}
+use native.Mathlib.Omega.{arith}
+use lib.ListN.{length, replicate}
+use Rattle.runs.specs.Table.{runsOf, stride}
+use Rattle.runs.proofs.Few.{table-at-most}
+use Rattle.halves.specs.Scratch.{listed}
+use Rattle.halves.proofs.Records.{records-listed}
+use Rattle.factors.specs.Factorization.{Choice}
+use Rattle.factors.specs.Table.{rows, sizes, previous, filled}
+use Rattle.factors.proofs.Lent.{lent, lent-rest}
+use Rattle.slots.specs.Ready.{RunsIn}
+
+pub listed-runs : (w t u : List ℕ) → stride * length w ≤ length t → length u ≡ length t → u ≡ listed w t → RunsIn w u
+listed-runs w t u room long is = (omega (arith, table-at-most w), records-listed w t u (length (runsOf w)) room refl is)
+
+pub lent-filled : (c : Choice) (b : ℕ → ℕ → Bool) (n : ℕ) (t new : List ℕ) → rows * (n + 1) ≤ length t → length new ≡ rows * (n + 1) - 0
+    → filled c b n (lent t 0 (rows * (n + 1)) new) ≡ filled c b n t
+lent-filled c b n t new room fits =
+    ap (λ (x : List ℕ). sizes c b n ++ (previous c b n ++ (replicate (2 * (n + 1)) 0 ++ x)))
+    (lent-rest t 0 (rows * (n + 1)) new (omega arith) room fits (rows * (n + 1)) (omega arith))

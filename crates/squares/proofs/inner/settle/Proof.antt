@@ -1,0 +1,29 @@
+-- `squares::inner::settle` meets its contract: what `finish` hands out from the filled table is the best split. Assumes nothing.
+use native.Mathlib.Omega.{arith}
+use borrow.Author.Needs.{needs}
+use Rattle.periods.specs.Square.{square?}
+use Rattle.factorizer.proofs.Filled.{given-readable, given-finished}
+use Rattle.squares.proofs.inner.settle.Statement.{statement}
+use Rattle.squares.proofs.inner.settle.Tie as tie
+
+fill-requires : tie.Need-fill-requires
+fill-requires c κs = search needs
+
+finish-requires : tie.Need-finish-requires
+finish-requires c κs =
+    let g = c .before .before .before .before .before .before .before .before .before .args in
+    given-readable square? (g .w .now) (g .choice) (g .work .now) _ (omega arith) (omega arith) (c .before .before .before .before .fill .ensures)
+
+same-length : tie.Need-same-length
+same-length c = search needs
+
+same-length-2 : tie.Need-same-length-2
+same-length-2 c = search needs
+
+returns : tie.Need-returns
+returns c =
+    let g = c .before .before .before .before .before .before .before .before .before .before .before .before .before .before .args in
+    given-finished square? (g .w .now) (g .choice) (g .work .now) _ (omega arith) (omega arith) (c .before .before .before .before .before .before .before .before .before .fill .ensures) (g .ends .now) _ _ _ (c .before .before .before .before .finish .ensures)
+
+pub settle-spec : {M : Type 1} → statement M
+settle-spec = tie.close (tie.spec fill-requires finish-requires same-length same-length-2 returns)
