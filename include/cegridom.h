@@ -1,14 +1,20 @@
 /*
  * cegridom: repetition factorizations of words.
  *
- * A word is at most CEGRIDOM_LIMIT bytes, any byte value a symbol, with positions from 1. The unit
- * of a part is its smallest period. A block (repetition) is a part at least 2 x its unit long in
- * edition 1, and at least 3 x in edition 2; its unit has at most CEGRIDOM_UNIT_MEMORY symbols. A
- * run is a part at least 2 x its unit long, of a unit of any length, that cannot be lengthened;
- * runs and their numbers are the same in both editions. A split (factorization) is a series of
- * blocks that join up to the word, given by the positions of their ends. A square is a non-empty
- * word of any length twice over; the calls on squares split into them instead of into blocks, and
- * are told no edition.
+ * A word is at most CEGRIDOM_LIMIT symbols, all bytes or all 16-bit codes, any value a symbol, with
+ * positions from 1. The unit of a part is its smallest period. A block (repetition) is a part at
+ * least 2 x its unit long in edition 1, and at least 3 x in edition 2; its unit has at most
+ * CEGRIDOM_UNIT_MEMORY symbols. A run is a part at least 2 x its unit long, of a unit of any
+ * length, that cannot be lengthened; runs and their numbers are the same in both editions. A split
+ * (factorization) is a series of blocks that join up to the word, given by the positions of their
+ * ends. A square is a non-empty word of any length twice over; the calls on squares split into them
+ * instead of into blocks, and are told no edition.
+ *
+ * Every call that takes a word has two forms under one comment: its name alone is for words of
+ * bytes, its name with _16 for words of 16-bit codes. Lengths count symbols. But for the page, the
+ * forms differ in nothing else: the same numbers as bytes and as codes get the same result, values
+ * and tables. Two words in one call have one width. A plan carries no symbols, so the calls on
+ * plans have one form.
  *
  * Every call about words or plans returns 0 for accepted, else the number of the refusal: of those
  * that the call's comment lists, the first that is met, in the order listed. *index is the number
@@ -25,8 +31,11 @@
  * Calls are reentrant: they keep no state, allocate nothing and call nothing back, so any number of
  * threads may call at once, with tables of their own. What a call costs is said in each comment, n
  * being the length of the word; where no stack is named, it is under 450 bytes. Stack figures are
- * for a warm call: where memset or memcpy is bound lazily, the first call of a process may take some
- * 3 KiB more, since the dynamic linker looks them up on the caller's stack.
+ * for 16-bit codes: the calls on bytes widen a word once, on the stack, and take 9 KiB more, or 17
+ * where there are two words; cegridom_part, cegridom_judge_split and cegridom_judge_squares go over
+ * the bytes themselves and take no more. The figures are for a warm call: where memset or memcpy is
+ * bound lazily, the first call of a process may take some 3 KiB more, since the dynamic linker looks
+ * them up on the caller's stack.
  *
  * The functions are those of libcegridom.a, for x86-64 Linux only, which `rt staticlib cegridom`
  * proves and writes to target/staticlib; it needs nothing but the C library's memset and memcpy.
@@ -45,9 +54,9 @@ extern "C" {
 
 /* The version of this header, in numbers and as text; cegridom_version gives the archive's. */
 #define CEGRIDOM_VERSION_MAJOR 0
-#define CEGRIDOM_VERSION_MINOR 9
+#define CEGRIDOM_VERSION_MINOR 10
 #define CEGRIDOM_VERSION (1000 * CEGRIDOM_VERSION_MAJOR + CEGRIDOM_VERSION_MINOR)
-#define CEGRIDOM_VERSION_STRING "0.9"
+#define CEGRIDOM_VERSION_STRING "0.10"
 
 /* The longest word that is taken. */
 #define CEGRIDOM_LIMIT 4096
@@ -181,20 +190,25 @@ uint32_t cegridom_version(void);
 uint32_t cegridom_part(const uint8_t *word, size_t n, uint32_t edition, uint32_t first,
                        uint32_t last, uint32_t *units, size_t unit_places, uint32_t *unit,
                        uint32_t *turns, uint32_t *rest, uint32_t *block, uint32_t *index);
+uint32_t cegridom_part_16(const uint16_t *word, size_t n, uint32_t edition, uint32_t first,
+                          uint32_t last, uint32_t *units, size_t unit_places, uint32_t *unit,
+                          uint32_t *turns, uint32_t *rest, uint32_t *block, uint32_t *index);
 
 /*
  * Runs: writes first, last, unit and root of each run to table, by first and then by unit, which is
  * the order of the run numbers from 1, and gives their count. The root is the position q from first
  * to first + unit - 1 where the unit symbols starting at q come first in order of symbol code, from
- * 0 to 255; there is just one. Two runs wind the same unit, perhaps from different starting
- * symbols, exactly where their units are equal and the unit symbols starting at their roots are the
- * same.
+ * 0 up, without a sign; there is just one. Two runs wind the same unit, perhaps from different
+ * starting symbols, exactly where their units are equal and the unit symbols starting at their
+ * roots are the same.
  * Reads word; changes the first 4 x count places of table. Refusals: 1, 7.
  * CEGRIDOM_MOST_RUN_PLACES(n) places, 4 x n, suffice for every word: with so many, 7 never comes.
  * Time at most n x log n, with one more logarithm on powers; 67 KiB of stack.
  */
 uint32_t cegridom_runs(const uint8_t *word, size_t n, uint32_t *table, size_t places,
                        uint32_t *count, uint32_t *index);
+uint32_t cegridom_runs_16(const uint16_t *word, size_t n, uint32_t *table, size_t places,
+                          uint32_t *count, uint32_t *index);
 
 /*
  * Nodes: writes the numbers of the runs that have a white node at the position, rising, to table,
@@ -206,6 +220,8 @@ uint32_t cegridom_runs(const uint8_t *word, size_t n, uint32_t *table, size_t pl
  */
 uint32_t cegridom_nodes(const uint8_t *word, size_t n, uint32_t edition, uint32_t position,
                         uint32_t *table, size_t places, uint32_t *count, uint32_t *index);
+uint32_t cegridom_nodes_16(const uint16_t *word, size_t n, uint32_t edition, uint32_t position,
+                           uint32_t *table, size_t places, uint32_t *count, uint32_t *index);
 
 /*
  * Best split: writes the ends of the split with the fewest (choice 1) or the most (choice 2)
@@ -223,6 +239,9 @@ uint32_t cegridom_nodes(const uint8_t *word, size_t n, uint32_t edition, uint32_
 uint32_t cegridom_best_split(const uint8_t *word, size_t n, uint32_t edition, uint32_t choice,
                              uint32_t *ends, size_t end_places, uint32_t *work, size_t work_places,
                              uint32_t *size, uint32_t *index);
+uint32_t cegridom_best_split_16(const uint16_t *word, size_t n, uint32_t edition, uint32_t choice,
+                                uint32_t *ends, size_t end_places, uint32_t *work,
+                                size_t work_places, uint32_t *size, uint32_t *index);
 
 /*
  * Best squares: writes the ends of the split into squares with the fewest (choice 1) or the most
@@ -241,6 +260,9 @@ uint32_t cegridom_best_split(const uint8_t *word, size_t n, uint32_t edition, ui
 uint32_t cegridom_best_squares(const uint8_t *word, size_t n, uint32_t choice, uint32_t *ends,
                                size_t end_places, uint32_t *work, size_t work_places,
                                uint32_t *size, uint32_t *index);
+uint32_t cegridom_best_squares_16(const uint16_t *word, size_t n, uint32_t choice, uint32_t *ends,
+                                  size_t end_places, uint32_t *work, size_t work_places,
+                                  uint32_t *size, uint32_t *index);
 
 /*
  * Which first: gives 1 for a or 2 for b, the word that has fewer blocks of the edition in its
@@ -254,6 +276,9 @@ uint32_t cegridom_best_squares(const uint8_t *word, size_t n, uint32_t choice, u
 uint32_t cegridom_which_first(const uint8_t *a, size_t a_n, const uint8_t *b, size_t b_n,
                               uint32_t edition, uint32_t *work, size_t work_places, uint32_t *which,
                               uint32_t *index);
+uint32_t cegridom_which_first_16(const uint16_t *a, size_t a_n, const uint16_t *b, size_t b_n,
+                                 uint32_t edition, uint32_t *work, size_t work_places,
+                                 uint32_t *which, uint32_t *index);
 
 /*
  * First block: gives 1 or 2 as cegridom_which_first does, and the length of the first block of that
@@ -267,6 +292,9 @@ uint32_t cegridom_which_first(const uint8_t *a, size_t a_n, const uint8_t *b, si
 uint32_t cegridom_first_block(const uint8_t *a, size_t a_n, const uint8_t *b, size_t b_n,
                               uint32_t edition, uint32_t *work, size_t work_places, uint32_t *which,
                               uint32_t *length);
+uint32_t cegridom_first_block_16(const uint16_t *a, size_t a_n, const uint16_t *b, size_t b_n,
+                                 uint32_t edition, uint32_t *work, size_t work_places,
+                                 uint32_t *which, uint32_t *length);
 
 /*
  * Judge a split: accepted, with the number of blocks, exactly when the ends are those of a split
@@ -276,6 +304,9 @@ uint32_t cegridom_first_block(const uint8_t *a, size_t a_n, const uint8_t *b, si
  */
 uint32_t cegridom_judge_split(const uint8_t *word, size_t n, uint32_t edition, const uint32_t *ends,
                               size_t end_count, uint32_t *blocks, uint32_t *index);
+uint32_t cegridom_judge_split_16(const uint16_t *word, size_t n, uint32_t edition,
+                                 const uint32_t *ends, size_t end_count, uint32_t *blocks,
+                                 uint32_t *index);
 
 /*
  * Judge squares: accepted, with the number of squares, exactly when the ends are those of a split
@@ -285,6 +316,8 @@ uint32_t cegridom_judge_split(const uint8_t *word, size_t n, uint32_t edition, c
  */
 uint32_t cegridom_judge_squares(const uint8_t *word, size_t n, const uint32_t *ends,
                                 size_t end_count, uint32_t *blocks, uint32_t *index);
+uint32_t cegridom_judge_squares_16(const uint16_t *word, size_t n, const uint32_t *ends,
+                                   size_t end_count, uint32_t *blocks, uint32_t *index);
 
 /*
  * Path of a split: writes the run number of each block to table, and gives the number of blocks.
@@ -297,6 +330,9 @@ uint32_t cegridom_judge_squares(const uint8_t *word, size_t n, const uint32_t *e
 uint32_t cegridom_path_of_split(const uint8_t *word, size_t n, uint32_t edition,
                                 const uint32_t *ends, size_t end_count, uint32_t *table,
                                 size_t places, uint32_t *blocks, uint32_t *index);
+uint32_t cegridom_path_of_split_16(const uint16_t *word, size_t n, uint32_t edition,
+                                   const uint32_t *ends, size_t end_count, uint32_t *table,
+                                   size_t places, uint32_t *blocks, uint32_t *index);
 
 /*
  * Judge a path, given for each block as a run number and then an end: accepted, with the number of
@@ -308,13 +344,17 @@ uint32_t cegridom_path_of_split(const uint8_t *word, size_t n, uint32_t edition,
 uint32_t cegridom_judge_path(const uint8_t *word, size_t n, uint32_t edition,
                              const uint32_t *numbers, size_t number_count, uint32_t *blocks,
                              uint32_t *index);
+uint32_t cegridom_judge_path_16(const uint16_t *word, size_t n, uint32_t edition,
+                                const uint32_t *numbers, size_t number_count, uint32_t *blocks,
+                                uint32_t *index);
 
 /*
  * Write a page: writes the page of a split to out, and gives its count of bytes. Each block becomes
  * one line of 60 characters and byte 10. Its number from 1, first, last, unit, turns, rest and run
  * number take six characters each, right-aligned and filled with spaces; the run number is that of
- * path of a split. The other eighteen show the first nine symbols of the unit, two lower-case
- * hexadecimal digits each, with spaces after a shorter unit. The empty word's page is empty.
+ * path of a split. The other eighteen show the first symbols of the unit in lower-case hexadecimal
+ * digits, at most nine bytes of two digits each or four 16-bit codes of four digits each, and then
+ * spaces. The empty word's page is empty.
  * Reads word and ends; changes the first bytes bytes of out.
  * Refusals: 1; 12; then for each end in turn 3, 4; then 5; then 7.
  * CEGRIDOM_PAGE_BYTES(end_count) bytes suffice, and CEGRIDOM_PAGE_BYTES(CEGRIDOM_MOST_ENDS(n)) for
@@ -324,6 +364,9 @@ uint32_t cegridom_judge_path(const uint8_t *word, size_t n, uint32_t edition,
 uint32_t cegridom_write_page(const uint8_t *word, size_t n, uint32_t edition, const uint32_t *ends,
                              size_t end_count, uint8_t *out, size_t room, uint32_t *bytes,
                              uint32_t *index);
+uint32_t cegridom_write_page_16(const uint16_t *word, size_t n, uint32_t edition,
+                                const uint32_t *ends, size_t end_count, uint8_t *out, size_t room,
+                                uint32_t *bytes, uint32_t *index);
 
 /*
  * Write a plan: writes the plan line of n and the ends to out, and gives its count of bytes. The

@@ -10,7 +10,8 @@
 //! The second times only the calls whose names have that word. `cargo test --benches` compares the
 //! answers and times nothing. A second table has each call on words of 8 symbols. With write a page
 //! comes one more: what it takes beyond path of a split, for each block. With which first and first
-//! block another: what they take of the time of two fewest splits, of each the median batch.
+//! block another: what they take of the time of two fewest splits, of each the median batch. The last
+//! has each call on words of bytes and on the same numbers as 16-bit codes.
 //!
 //! A call that is told an edition has a row for each, on the same words. Of random words several are
 //! taken in turn. Buffers are allocated once and not cleared between calls. Each figure is processor
@@ -21,7 +22,7 @@ mod twin;
 #[allow(dead_code)]
 mod words;
 
-use cegridom::{raw, Choice, Edition};
+use cegridom::{raw, Choice, Edition, Symbol};
 use std::hint::black_box;
 use words::{fibonacci, last_differs, thue_morse};
 
@@ -42,9 +43,21 @@ const MOST_RATIO: f64 = 1.5;
 const MOST_TO_FIRST: f64 = 1.7;
 /// What a call on two words may take of the time of their two fewest splits.
 const MOST_OF_TWO: f64 = 1.05;
+/// What a call on 16-bit codes may take of its time on bytes.
+const MOST_OF_BYTES: f64 = 1.1;
 const MICRO: f64 = 1e6;
 const MILLI: f64 = 1e3;
 const NANO: f64 = 1e9;
+
+/// A kind of symbol, which a byte can be written in.
+trait Kind: Symbol + twin::Code + From<u8> + 'static {}
+
+impl<S: Symbol + twin::Code + From<u8> + 'static> Kind for S {}
+
+/// The same numbers as symbols of a kind.
+fn spelt<S: Kind>(word: Vec<u8>) -> Vec<S> {
+    word.into_iter().map(S::from).collect()
+}
 
 /// The word number `number` of such words; 0 is the one where one is enough.
 fn random_word(n: usize, symbols: u64, number: u64) -> Vec<u8> {
@@ -99,13 +112,15 @@ impl Family {
         }
     }
 
-    fn words(&self, n: usize) -> Vec<Vec<u8>> {
+    fn words<S: Kind>(&self, n: usize) -> Vec<Vec<S>> {
         let different = match self.many {
             true => (DIFFERENT_SYMBOLS / n).min(MOST_DIFFERENT),
             false => 1,
         };
         let numbers = 0..different as u64;
-        numbers.map(|number| (self.word)(n, number)).collect()
+        numbers
+            .map(|number| spelt((self.word)(n, number)))
+            .collect()
     }
 }
 
@@ -188,10 +203,10 @@ impl Buffers {
 }
 
 /// What the calls are given.
-struct Input {
-    word: Vec<u8>,
+struct Input<S = u8> {
+    word: Vec<S>,
     /// For the calls on two words.
-    second: Vec<u8>,
+    second: Vec<S>,
     /// Its number.
     edition: u32,
     ends: Vec<u32>,
@@ -202,10 +217,10 @@ struct Input {
     plan: Vec<u8>,
 }
 
-impl Input {
+impl<S: Kind> Input<S> {
     /// The edition's split with the most blocks, where there is one; else the whole word as one
     /// block.
-    fn new(word: Vec<u8>, edition: Edition) -> Input {
+    fn new(word: Vec<S>, edition: Edition) -> Input<S> {
         let n = word.len() as u32;
         let ends = cegridom::best_split(&word, edition, Choice::Most).unwrap_or(vec![n]);
         Input::split(word, edition, ends)
@@ -213,7 +228,7 @@ impl Input {
 
     /// The word with these ends. Those of squares are of the split with the most, where there is one;
     /// else the whole word as one.
-    fn split(word: Vec<u8>, edition: Edition, ends: Vec<u32>) -> Input {
+    fn split(word: Vec<S>, edition: Edition, ends: Vec<u32>) -> Input<S> {
         let n = word.len() as u32;
         let square_ends = cegridom::best_squares(&word, Choice::Most).unwrap_or(vec![n]);
         let runs = cegridom::path_of_split(&word, edition, &ends).unwrap_or(vec![1]);
@@ -221,7 +236,7 @@ impl Input {
         let plan_ends: Vec<u32> = (1..=n / 2).map(|k| 2 * k).collect();
         let plan = cegridom::write_plan(word.len(), &plan_ends).unwrap();
         Input {
-            second: fibonacci(word.len()),
+            second: spelt(fibonacci(word.len())),
             word,
             edition: edition.number(),
             ends,
@@ -233,7 +248,7 @@ impl Input {
     }
 
     /// Two words.
-    fn pair([word, second]: [Vec<u8>; 2], edition: Edition) -> Input {
+    fn pair([word, second]: [Vec<S>; 2], edition: Edition) -> Input<S> {
         Input {
             second,
             ..Input::new(word, edition)
@@ -241,7 +256,7 @@ impl Input {
     }
 
     /// The same word, split and path, told another edition.
-    fn told(self, edition: Edition) -> Input {
+    fn told(self, edition: Edition) -> Input<S> {
         Input {
             edition: edition.number(),
             ..self
@@ -281,19 +296,19 @@ enum On {
 
 /// A call's name, what its time depends on, whether it is told an edition, and the call by the
 /// library and its twin.
-struct Call {
+struct Call<S: 'static = u8> {
     name: &'static str,
     on: On,
     in_editions: bool,
-    library: fn(&Input, &mut Buffers) -> Answer,
-    twin: fn(&Input, &mut Buffers) -> Answer,
+    library: fn(&Input<S>, &mut Buffers) -> Answer,
+    twin: fn(&Input<S>, &mut Buffers) -> Answer,
 }
 
 // The pointers that the calls below hand over come from the vectors of the input and of the
 // buffers, with their own lengths, and from the values of `answer`; none overlaps another.
 
-fn best(
-    w: &[u8],
+fn best<S: Kind>(
+    w: &[S],
     edition: u32,
     choice: Choice,
     b: &mut Buffers,
@@ -302,7 +317,7 @@ fn best(
 ) -> u32 {
     let (e, t) = (&mut b.table, &mut b.work);
     unsafe {
-        raw::cegridom_best_split(
+        (S::CALLS.best_split)(
             w.as_ptr(),
             w.len(),
             edition,
@@ -317,7 +332,7 @@ fn best(
     }
 }
 
-fn library_best(input: &Input, b: &mut Buffers, choice: Choice) -> Answer {
+fn library_best<S: Kind>(input: &Input<S>, b: &mut Buffers, choice: Choice) -> Answer {
     answer(|[size], index| best(&input.word, input.edition, choice, b, size, index))
 }
 
@@ -330,15 +345,15 @@ fn two_fewest(input: &Input, b: &mut Buffers) -> Answer {
     })
 }
 
-fn twin_best(input: &Input, b: &mut Buffers, choice: Choice) -> Answer {
+fn twin_best<S: Kind>(input: &Input<S>, b: &mut Buffers, choice: Choice) -> Answer {
     let (w, choice) = (&input.word, choice.number());
     twin::best_split(w, input.edition, choice, &mut b.table, &mut b.work).map(|v| padded([v]))
 }
 
-fn library_squares(input: &Input, b: &mut Buffers, choice: Choice) -> Answer {
+fn library_squares<S: Kind>(input: &Input<S>, b: &mut Buffers, choice: Choice) -> Answer {
     let (w, e, t) = (&input.word, &mut b.table, &mut b.work);
     answer(|[size], index| unsafe {
-        raw::cegridom_best_squares(
+        (S::CALLS.best_squares)(
             w.as_ptr(),
             w.len(),
             choice.number(),
@@ -352,7 +367,7 @@ fn library_squares(input: &Input, b: &mut Buffers, choice: Choice) -> Answer {
     })
 }
 
-fn twin_squares(input: &Input, b: &mut Buffers, choice: Choice) -> Answer {
+fn twin_squares<S: Kind>(input: &Input<S>, b: &mut Buffers, choice: Choice) -> Answer {
     let (w, choice) = (&input.word, choice.number());
     twin::best_squares(w, choice, &mut b.table, &mut b.work).map(|v| padded([v]))
 }
@@ -363,287 +378,305 @@ const PAGE: &str = "write a page";
 const WHICH: &str = "which first";
 const BLOCK: &str = "first block";
 
-static CALLS: [Call; 16] = [
-    Call {
-        name: "part",
-        on: On::Word,
-        in_editions: true,
-        library: |input, b| {
-            let (w, n, edition) = (input.word.as_ptr(), input.word.len(), input.edition);
-            let t = &mut b.table[..n];
-            answer(|[unit, turns, rest, block], index| unsafe {
-                raw::cegridom_part(
-                    w,
-                    n,
-                    edition,
-                    1,
-                    n as u32,
-                    t.as_mut_ptr(),
-                    t.len(),
-                    unit,
-                    turns,
-                    rest,
-                    block,
-                    index,
-                )
-            })
+static CALLS: [Call; 16] = calls();
+
+/// The same of 16-bit codes. Those on plans are the same.
+static CALLS_16: [Call<u16>; 16] = calls();
+
+const fn calls<S: Kind>() -> [Call<S>; 16] {
+    [
+        Call {
+            name: "part",
+            on: On::Word,
+            in_editions: true,
+            library: |input, b| {
+                let (w, n, edition) = (input.word.as_ptr(), input.word.len(), input.edition);
+                let t = &mut b.table[..n];
+                answer(|[unit, turns, rest, block], index| unsafe {
+                    (S::CALLS.part)(
+                        w,
+                        n,
+                        edition,
+                        1,
+                        n as u32,
+                        t.as_mut_ptr(),
+                        t.len(),
+                        unit,
+                        turns,
+                        rest,
+                        block,
+                        index,
+                    )
+                })
+            },
+            twin: |input, b| {
+                let (w, n) = (&input.word, input.word.len());
+                twin::part(w, input.edition, 1, n as u32, &mut b.table[..n]).map(padded)
+            },
         },
-        twin: |input, b| {
-            let (w, n) = (&input.word, input.word.len());
-            twin::part(w, input.edition, 1, n as u32, &mut b.table[..n]).map(padded)
+        Call {
+            name: "runs",
+            on: On::Word,
+            in_editions: false,
+            library: |input, b| {
+                let (w, t) = (&input.word, &mut b.table);
+                answer(|[count], index| unsafe {
+                    (S::CALLS.runs)(w.as_ptr(), w.len(), t.as_mut_ptr(), t.len(), count, index)
+                })
+            },
+            twin: |input, b| twin::runs(&input.word, &mut b.table).map(|v| padded([v])),
         },
-    },
-    Call {
-        name: "runs",
-        on: On::Word,
-        in_editions: false,
-        library: |input, b| {
-            let (w, t) = (&input.word, &mut b.table);
-            answer(|[count], index| unsafe {
-                raw::cegridom_runs(w.as_ptr(), w.len(), t.as_mut_ptr(), t.len(), count, index)
-            })
+        Call {
+            name: "nodes, last position",
+            on: On::Word,
+            in_editions: true,
+            library: |input, b| {
+                let (w, n, edition) = (input.word.as_ptr(), input.word.len(), input.edition);
+                let t = &mut b.table;
+                answer(|[count], index| unsafe {
+                    (S::CALLS.nodes)(
+                        w,
+                        n,
+                        edition,
+                        n as u32,
+                        t.as_mut_ptr(),
+                        t.len(),
+                        count,
+                        index,
+                    )
+                })
+            },
+            twin: |input, b| {
+                let w = &input.word;
+                twin::nodes(w, input.edition, w.len() as u32, &mut b.table).map(|v| padded([v]))
+            },
         },
-        twin: |input, b| twin::runs(&input.word, &mut b.table).map(|v| padded([v])),
-    },
-    Call {
-        name: "nodes, last position",
-        on: On::Word,
-        in_editions: true,
-        library: |input, b| {
-            let (w, n, edition) = (input.word.as_ptr(), input.word.len(), input.edition);
-            let t = &mut b.table;
-            answer(|[count], index| unsafe {
-                raw::cegridom_nodes(
-                    w,
-                    n,
-                    edition,
-                    n as u32,
-                    t.as_mut_ptr(),
-                    t.len(),
-                    count,
-                    index,
-                )
-            })
+        Call {
+            name: "best split, fewest",
+            on: On::Word,
+            in_editions: true,
+            library: |input, b| library_best(input, b, Choice::Fewest),
+            twin: |input, b| twin_best(input, b, Choice::Fewest),
         },
-        twin: |input, b| {
-            let w = &input.word;
-            twin::nodes(w, input.edition, w.len() as u32, &mut b.table).map(|v| padded([v]))
+        Call {
+            name: "best split, most",
+            on: On::Word,
+            in_editions: true,
+            library: |input, b| library_best(input, b, Choice::Most),
+            twin: |input, b| twin_best(input, b, Choice::Most),
         },
-    },
-    Call {
-        name: "best split, fewest",
-        on: On::Word,
-        in_editions: true,
-        library: |input, b| library_best(input, b, Choice::Fewest),
-        twin: |input, b| twin_best(input, b, Choice::Fewest),
-    },
-    Call {
-        name: "best split, most",
-        on: On::Word,
-        in_editions: true,
-        library: |input, b| library_best(input, b, Choice::Most),
-        twin: |input, b| twin_best(input, b, Choice::Most),
-    },
-    Call {
-        name: "best squares, fewest",
-        on: On::Word,
-        in_editions: false,
-        library: |input, b| library_squares(input, b, Choice::Fewest),
-        twin: |input, b| twin_squares(input, b, Choice::Fewest),
-    },
-    Call {
-        name: "best squares, most",
-        on: On::Word,
-        in_editions: false,
-        library: |input, b| library_squares(input, b, Choice::Most),
-        twin: |input, b| twin_squares(input, b, Choice::Most),
-    },
-    Call {
-        name: WHICH,
-        on: On::TwoWords,
-        in_editions: true,
-        library: |input, b| {
-            let (v, w, t) = (&input.word, &input.second, &mut b.work);
-            answer(|[which], index| unsafe {
-                raw::cegridom_which_first(
-                    v.as_ptr(),
-                    v.len(),
-                    w.as_ptr(),
-                    w.len(),
-                    input.edition,
-                    t.as_mut_ptr(),
-                    t.len(),
-                    which,
-                    index,
-                )
-            })
+        Call {
+            name: "best squares, fewest",
+            on: On::Word,
+            in_editions: false,
+            library: |input, b| library_squares(input, b, Choice::Fewest),
+            twin: |input, b| twin_squares(input, b, Choice::Fewest),
         },
-        twin: |input, b| {
-            let (v, w) = (&input.word, &input.second);
-            twin::which_first(v, w, input.edition, &mut b.work).map(|which| padded([which]))
+        Call {
+            name: "best squares, most",
+            on: On::Word,
+            in_editions: false,
+            library: |input, b| library_squares(input, b, Choice::Most),
+            twin: |input, b| twin_squares(input, b, Choice::Most),
         },
-    },
-    Call {
-        name: BLOCK,
-        on: On::TwoWords,
-        in_editions: true,
-        library: |input, b| {
-            let (v, w, t) = (&input.word, &input.second, &mut b.work);
-            answer(|[which, length], _| unsafe {
-                raw::cegridom_first_block(
-                    v.as_ptr(),
-                    v.len(),
-                    w.as_ptr(),
-                    w.len(),
-                    input.edition,
-                    t.as_mut_ptr(),
-                    t.len(),
-                    which,
-                    length,
-                )
-            })
+        Call {
+            name: WHICH,
+            on: On::TwoWords,
+            in_editions: true,
+            library: |input, b| {
+                let (v, w, t) = (&input.word, &input.second, &mut b.work);
+                answer(|[which], index| unsafe {
+                    (S::CALLS.which_first)(
+                        v.as_ptr(),
+                        v.len(),
+                        w.as_ptr(),
+                        w.len(),
+                        input.edition,
+                        t.as_mut_ptr(),
+                        t.len(),
+                        which,
+                        index,
+                    )
+                })
+            },
+            twin: |input, b| {
+                let (v, w) = (&input.word, &input.second);
+                twin::which_first(v, w, input.edition, &mut b.work).map(|which| padded([which]))
+            },
         },
-        twin: |input, b| {
-            let (v, w) = (&input.word, &input.second);
-            Ok(padded(twin::first_block(v, w, input.edition, &mut b.work)))
+        Call {
+            name: BLOCK,
+            on: On::TwoWords,
+            in_editions: true,
+            library: |input, b| {
+                let (v, w, t) = (&input.word, &input.second, &mut b.work);
+                answer(|[which, length], _| unsafe {
+                    (S::CALLS.first_block)(
+                        v.as_ptr(),
+                        v.len(),
+                        w.as_ptr(),
+                        w.len(),
+                        input.edition,
+                        t.as_mut_ptr(),
+                        t.len(),
+                        which,
+                        length,
+                    )
+                })
+            },
+            twin: |input, b| {
+                let (v, w) = (&input.word, &input.second);
+                Ok(padded(twin::first_block(v, w, input.edition, &mut b.work)))
+            },
         },
-    },
-    Call {
-        name: "judge a split",
-        on: On::Word,
-        in_editions: true,
-        library: |input, _| {
-            let (w, n, edition) = (input.word.as_ptr(), input.word.len(), input.edition);
-            let e = &input.ends;
-            answer(|[blocks], index| unsafe {
-                raw::cegridom_judge_split(w, n, edition, e.as_ptr(), e.len(), blocks, index)
-            })
+        Call {
+            name: "judge a split",
+            on: On::Word,
+            in_editions: true,
+            library: |input, _| {
+                let (w, n, edition) = (input.word.as_ptr(), input.word.len(), input.edition);
+                let e = &input.ends;
+                answer(|[blocks], index| unsafe {
+                    (S::CALLS.judge_split)(w, n, edition, e.as_ptr(), e.len(), blocks, index)
+                })
+            },
+            twin: |input, _| {
+                twin::judge_split(&input.word, input.edition, &input.ends).map(|v| padded([v]))
+            },
         },
-        twin: |input, _| {
-            twin::judge_split(&input.word, input.edition, &input.ends).map(|v| padded([v]))
+        Call {
+            name: "judge squares",
+            on: On::Word,
+            in_editions: false,
+            library: |input, _| {
+                let (w, e) = (&input.word, &input.square_ends);
+                answer(|[blocks], index| unsafe {
+                    (S::CALLS.judge_squares)(
+                        w.as_ptr(),
+                        w.len(),
+                        e.as_ptr(),
+                        e.len(),
+                        blocks,
+                        index,
+                    )
+                })
+            },
+            twin: |input, _| {
+                twin::judge_squares(&input.word, &input.square_ends).map(|v| padded([v]))
+            },
         },
-    },
-    Call {
-        name: "judge squares",
-        on: On::Word,
-        in_editions: false,
-        library: |input, _| {
-            let (w, e) = (&input.word, &input.square_ends);
-            answer(|[blocks], index| unsafe {
-                raw::cegridom_judge_squares(w.as_ptr(), w.len(), e.as_ptr(), e.len(), blocks, index)
-            })
+        Call {
+            name: PATH,
+            on: On::Word,
+            in_editions: true,
+            library: |input, b| {
+                let (w, e, t) = (&input.word, &input.ends, &mut b.table);
+                answer(|[blocks], index| unsafe {
+                    (S::CALLS.path_of_split)(
+                        w.as_ptr(),
+                        w.len(),
+                        input.edition,
+                        e.as_ptr(),
+                        e.len(),
+                        t.as_mut_ptr(),
+                        t.len(),
+                        blocks,
+                        index,
+                    )
+                })
+            },
+            twin: |input, b| {
+                let (w, e) = (&input.word, &input.ends);
+                twin::path_of_split(w, input.edition, e, &mut b.table).map(|v| padded([v]))
+            },
         },
-        twin: |input, _| twin::judge_squares(&input.word, &input.square_ends).map(|v| padded([v])),
-    },
-    Call {
-        name: PATH,
-        on: On::Word,
-        in_editions: true,
-        library: |input, b| {
-            let (w, e, t) = (&input.word, &input.ends, &mut b.table);
-            answer(|[blocks], index| unsafe {
-                raw::cegridom_path_of_split(
-                    w.as_ptr(),
-                    w.len(),
-                    input.edition,
-                    e.as_ptr(),
-                    e.len(),
-                    t.as_mut_ptr(),
-                    t.len(),
-                    blocks,
-                    index,
-                )
-            })
+        Call {
+            name: "judge a path",
+            on: On::Word,
+            in_editions: true,
+            library: |input, _| {
+                let (w, n, edition) = (input.word.as_ptr(), input.word.len(), input.edition);
+                let p = &input.path;
+                answer(|[blocks], index| unsafe {
+                    (S::CALLS.judge_path)(w, n, edition, p.as_ptr(), p.len(), blocks, index)
+                })
+            },
+            twin: |input, _| {
+                twin::judge_path(&input.word, input.edition, &input.path).map(|v| padded([v]))
+            },
         },
-        twin: |input, b| {
-            let (w, e) = (&input.word, &input.ends);
-            twin::path_of_split(w, input.edition, e, &mut b.table).map(|v| padded([v]))
+        Call {
+            name: PAGE,
+            on: On::Word,
+            in_editions: true,
+            library: |input, b| {
+                let (w, e, out) = (&input.word, &input.ends, &mut b.page);
+                answer(|[bytes], index| unsafe {
+                    (S::CALLS.write_page)(
+                        w.as_ptr(),
+                        w.len(),
+                        input.edition,
+                        e.as_ptr(),
+                        e.len(),
+                        out.as_mut_ptr(),
+                        out.len(),
+                        bytes,
+                        index,
+                    )
+                })
+            },
+            twin: |input, b| {
+                let (w, e) = (&input.word, &input.ends);
+                twin::write_page(w, input.edition, e, &mut b.page).map(|v| padded([v]))
+            },
         },
-    },
-    Call {
-        name: "judge a path",
-        on: On::Word,
-        in_editions: true,
-        library: |input, _| {
-            let (w, n, edition) = (input.word.as_ptr(), input.word.len(), input.edition);
-            let p = &input.path;
-            answer(|[blocks], index| unsafe {
-                raw::cegridom_judge_path(w, n, edition, p.as_ptr(), p.len(), blocks, index)
-            })
+        Call {
+            name: "write a plan",
+            on: On::Ends,
+            in_editions: false,
+            library: |input, b| {
+                let (n, e, out) = (input.word.len() as u32, &input.plan_ends, &mut b.line);
+                answer(|[bytes], index| unsafe {
+                    raw::cegridom_write_plan(
+                        n,
+                        e.as_ptr(),
+                        e.len(),
+                        out.as_mut_ptr(),
+                        out.len(),
+                        bytes,
+                        index,
+                    )
+                })
+            },
+            twin: |input, b| {
+                let n = input.word.len() as u32;
+                twin::write_plan(n, &input.plan_ends, &mut b.line).map(|v| padded([v]))
+            },
         },
-        twin: |input, _| {
-            twin::judge_path(&input.word, input.edition, &input.path).map(|v| padded([v]))
+        Call {
+            name: "read a plan",
+            on: On::Ends,
+            in_editions: false,
+            library: |input, b| {
+                let (s, t) = (&input.plan, &mut b.table);
+                answer(|[n, count], index| unsafe {
+                    raw::cegridom_read_plan(
+                        s.as_ptr(),
+                        s.len(),
+                        t.as_mut_ptr(),
+                        t.len(),
+                        n,
+                        count,
+                        index,
+                    )
+                })
+            },
+            twin: |input, b| {
+                twin::read_plan(&input.plan, &mut b.table).map(|(n, k)| padded([n, k]))
+            },
         },
-    },
-    Call {
-        name: PAGE,
-        on: On::Word,
-        in_editions: true,
-        library: |input, b| {
-            let (w, e, out) = (&input.word, &input.ends, &mut b.page);
-            answer(|[bytes], index| unsafe {
-                raw::cegridom_write_page(
-                    w.as_ptr(),
-                    w.len(),
-                    input.edition,
-                    e.as_ptr(),
-                    e.len(),
-                    out.as_mut_ptr(),
-                    out.len(),
-                    bytes,
-                    index,
-                )
-            })
-        },
-        twin: |input, b| {
-            let (w, e) = (&input.word, &input.ends);
-            twin::write_page(w, input.edition, e, &mut b.page).map(|v| padded([v]))
-        },
-    },
-    Call {
-        name: "write a plan",
-        on: On::Ends,
-        in_editions: false,
-        library: |input, b| {
-            let (n, e, out) = (input.word.len() as u32, &input.plan_ends, &mut b.line);
-            answer(|[bytes], index| unsafe {
-                raw::cegridom_write_plan(
-                    n,
-                    e.as_ptr(),
-                    e.len(),
-                    out.as_mut_ptr(),
-                    out.len(),
-                    bytes,
-                    index,
-                )
-            })
-        },
-        twin: |input, b| {
-            let n = input.word.len() as u32;
-            twin::write_plan(n, &input.plan_ends, &mut b.line).map(|v| padded([v]))
-        },
-    },
-    Call {
-        name: "read a plan",
-        on: On::Ends,
-        in_editions: false,
-        library: |input, b| {
-            let (s, t) = (&input.plan, &mut b.table);
-            answer(|[n, count], index| unsafe {
-                raw::cegridom_read_plan(
-                    s.as_ptr(),
-                    s.len(),
-                    t.as_mut_ptr(),
-                    t.len(),
-                    n,
-                    count,
-                    index,
-                )
-            })
-        },
-        twin: |input, b| twin::read_plan(&input.plan, &mut b.table).map(|(n, k)| padded([n, k])),
-    },
-];
+    ]
+}
 
 /// The processor time of this thread, in seconds: what other programs take is not in it.
 fn processor_time() -> f64 {
@@ -667,9 +700,9 @@ fn processor_time() -> f64 {
 }
 
 /// Seconds of one call, over a batch of so many turns through the inputs.
-fn batch(
-    call: fn(&Input, &mut Buffers) -> Answer,
-    inputs: &[Input],
+fn batch<S>(
+    call: fn(&Input<S>, &mut Buffers) -> Answer,
+    inputs: &[Input<S>],
     buffers: &mut Buffers,
     turns: usize,
 ) -> f64 {
@@ -683,7 +716,7 @@ fn batch(
 }
 
 /// What the library and its twin both answer, with equal tables.
-fn agreed(call: &Call, input: &Input, ours: &mut Buffers, theirs: &mut Buffers) -> Answer {
+fn agreed<S>(call: &Call<S>, input: &Input<S>, ours: &mut Buffers, theirs: &mut Buffers) -> Answer {
     let given = (call.library)(input, ours);
     assert_eq!(given, (call.twin)(input, theirs), "{}", call.name);
     assert_eq!(ours, theirs, "{}", call.name);
@@ -691,7 +724,7 @@ fn agreed(call: &Call, input: &Input, ours: &mut Buffers, theirs: &mut Buffers) 
 }
 
 /// How many turns through the inputs make a batch.
-fn turns_of(call: &Call, inputs: &[Input], buffers: &mut Buffers) -> usize {
+fn turns_of<S>(call: &Call<S>, inputs: &[Input<S>], buffers: &mut Buffers) -> usize {
     let once = batch(call.library, inputs, buffers, 1) * inputs.len() as f64;
     (BATCH_SECONDS / once).ceil().max(1.0) as usize
 }
@@ -714,7 +747,7 @@ fn measure(call: &Call, inputs: &[Input]) -> (f64, f64, Answer) {
 }
 
 /// The words of a family, for a call that is told an edition.
-fn inputs(family: &Family, n: usize, edition: Edition) -> Vec<Input> {
+fn inputs<S: Kind>(family: &Family, n: usize, edition: Edition) -> Vec<Input<S>> {
     let words = family.words(n).into_iter();
     words.map(|word| Input::new(word, edition)).collect()
 }
@@ -815,7 +848,7 @@ impl Row {
 }
 
 /// The words that a call is tried on: one is enough where its time does not depend on them.
-fn families(call: &Call) -> &'static [Family] {
+fn families<S>(call: &Call<S>) -> &'static [Family] {
     match call.on {
         On::Word | On::TwoWords => &FAMILIES,
         On::Ends => &FAMILIES[..1],
@@ -823,7 +856,7 @@ fn families(call: &Call) -> &'static [Family] {
 }
 
 /// The editions that a call is tried in: one is enough where it is told none.
-fn editions(call: &Call) -> &'static [Edition] {
+fn editions<S>(call: &Call<S>) -> &'static [Edition] {
     const BOTH: [Edition; 2] = [Edition::One, Edition::Two];
     &BOTH[..if call.in_editions { BOTH.len() } else { 1 }]
 }
@@ -1012,12 +1045,82 @@ fn time_pairs() {
     }
 }
 
+/// Lengths for the comparison of bytes with codes, and some of the words.
+const WIDTH_LENGTHS: [usize; 3] = [SHORT, 512, 4096];
+const WIDTH_WORDS: [&str; 4] = ["random, 2 symbols", "all equal", "Fibonacci", "(a²⁵⁵b)…"];
+
+/// The times of a call on bytes and on codes, which answer the same.
+fn both_widths(bytes: &Call, codes: &Call<u16>, family: &Family, n: usize) -> [f64; 2] {
+    let (of_bytes, of_codes) = (
+        inputs(family, n, Edition::One),
+        inputs(family, n, Edition::One),
+    );
+    let mut buffers = Buffers::new(n);
+    for (a, b) in of_bytes.iter().zip(&of_codes) {
+        let given = (bytes.library)(a, &mut buffers);
+        assert_eq!(given, (codes.library)(b, &mut buffers), "{}", bytes.name);
+    }
+    let turns = turns_of(bytes, &of_bytes, &mut buffers);
+    let mut least = [f64::MAX; 2];
+    for _ in 0..CLOSE_BATCHES {
+        least[0] = least[0].min(batch(bytes.library, &of_bytes, &mut buffers, turns));
+        least[1] = least[1].min(batch(codes.library, &of_codes, &mut buffers, turns));
+    }
+    least
+}
+
+/// The calls on words, of bytes and of codes.
+fn of_both<'a>(
+    calls: impl Iterator<Item = &'a Call>,
+) -> impl Iterator<Item = (&'a Call, &'static Call<u16>)> {
+    let on_words = calls.filter(|call| !matches!(call.on, On::Ends));
+    on_words.map(|call| {
+        let mut codes = CALLS_16.iter();
+        let same = codes.find(|codes| codes.name == call.name);
+        (call, same.expect("it is a call"))
+    })
+}
+
+fn time_widths(calls: impl Iterator<Item = &'static Call>) {
+    println!("\nTime of one call in microseconds, in edition 1, on a word of bytes and on the same numbers as 16-bit codes, by its length, or that of each of two; ratio is the time on codes over that on bytes.\n");
+    println!("| call | word | bytes, 8 | codes, 8 | ratio | bytes, 512 | codes, 512 | ratio | bytes, 4,096 | codes, 4,096 | ratio |");
+    println!("|---|---|--:|--:|--:|--:|--:|--:|--:|--:|--:|");
+    let mut over = Vec::new();
+    let mut worst = 0.0f64;
+    for (bytes, codes) in of_both(calls) {
+        let some = FAMILIES.iter().filter(|f| WIDTH_WORDS.contains(&f.name));
+        for family in some {
+            let columns = WIDTH_LENGTHS.map(|n| {
+                let times = both_widths(bytes, codes, family, n);
+                let ratio = times[1] / times[0];
+                worst = worst.max(ratio);
+                if ratio > MOST_OF_BYTES {
+                    let (name, n) = (bytes.name, thousands(n));
+                    over.push(format!("{name}, {}, {n}: {ratio:.2}", family.name));
+                }
+                let [bytes, codes] = times.map(|t| t * MICRO);
+                format!("{bytes:.3} | {codes:.3} | {ratio:.2}")
+            });
+            println!(
+                "| {} | {} | {} |",
+                bytes.name,
+                family.name,
+                columns.join(" | ")
+            );
+        }
+    }
+    println!("\nWorst {worst:.2} of the time on bytes.");
+    for row in over {
+        println!("Over {MOST_OF_BYTES} of the time on bytes: {row}.");
+    }
+}
+
 fn greatest(figures: impl Iterator<Item = f64>) -> f64 {
     figures.fold(0.0, f64::max)
 }
 
 /// Compares the answers at the least length, and on words of a few symbols.
-fn compare(calls: impl Iterator<Item = &'static Call>) {
+fn compare<S: Kind>(calls: impl Iterator<Item = &'static Call<S>>) {
     for call in calls {
         for family in families(call) {
             for &edition in editions(call) {
@@ -1063,25 +1166,47 @@ fn compare_pairs() {
     }
 }
 
+/// The answers and tables of bytes and of codes, the page apart.
+fn compare_widths(calls: impl Iterator<Item = &'static Call>) {
+    for (bytes, codes) in of_both(calls) {
+        for family in families(bytes) {
+            for n in [SHORT, LENGTHS[0]] {
+                let (mut a, mut b) = (Buffers::new(n), Buffers::new(n));
+                let of_bytes = inputs(family, n, Edition::One).into_iter();
+                for (of_bytes, of_codes) in of_bytes.zip(inputs(family, n, Edition::One)) {
+                    let given = (bytes.library)(&of_bytes, &mut a);
+                    assert_eq!(given, (codes.library)(&of_codes, &mut b), "{}", bytes.name);
+                    b.page.clone_from(&a.page);
+                    assert_eq!(a, b, "{}", bytes.name);
+                }
+            }
+        }
+    }
+}
+
 fn main() {
     // `cargo bench` adds `--bench` to what is asked for; `cargo test` does not.
     let arguments: Vec<String> = std::env::args().skip(1).collect();
     let wanted = arguments.iter().find(|a| !a.starts_with("--"));
     let wanted = wanted.map_or("", String::as_str);
     let chosen = CALLS.iter().filter(|call| call.name.contains(wanted));
+    let chosen_16 = CALLS_16.iter().filter(|call| call.name.contains(wanted));
     let pages = PAGE.contains(wanted);
     let pairs = [WHICH, BLOCK].iter().any(|name| name.contains(wanted));
     if arguments.iter().any(|a| a == "--bench") {
         time(chosen.clone());
-        time_short(chosen);
+        time_short(chosen.clone());
         if pages {
             time_pages();
         }
         if pairs {
             time_pairs();
         }
+        time_widths(chosen);
     } else {
-        compare(chosen);
+        compare(chosen.clone());
+        compare(chosen_16);
+        compare_widths(chosen);
         if pages {
             compare_pages();
         }

@@ -3,10 +3,11 @@
 //! Safety of the calls into the archive: every pointer handed over comes from a slice, with that
 //! slice's own count of elements, or from a variable of the wrapper, and is valid for the whole
 //! call. Whatever is written comes from a `&mut` of its own, so that nothing overlaps it; two words
-//! that are only read may overlap.
+//! that are only read may overlap. A word goes to the function that is declared for its kind of
+//! symbol, which the types of `Symbol::CALLS` demand.
 
 use crate::raw::{self, RUN_PLACES, STEP_PLACES};
-use crate::Refusal;
+use crate::{Refusal, Symbol};
 
 /// The edition of the winder's controller, which says how long a block is at least.
 #[derive(Clone, Copy, Debug, PartialEq, Eq, Hash)]
@@ -91,7 +92,7 @@ pub struct Run {
     /// Its unit.
     pub unit: u32,
     /// The position from `first` to `first + unit - 1` where the `unit` symbols starting there come
-    /// first in order of symbol code, from 0 to 255; there is just one. Two runs wind the same unit,
+    /// first in order of symbol code, from 0 up; there is just one. Two runs wind the same unit,
     /// perhaps from different starting symbols, exactly where their units are equal and the `unit`
     /// symbols starting at their roots are the same.
     pub root: u32,
@@ -157,8 +158,8 @@ pub fn version() -> (u32, u32) {
 /// assert_eq!(short, Err(Refusal::TooFewPlaces));
 /// assert_eq!(units, [1, 2, 2, 2, 2, 9]);
 /// ```
-pub fn part_into(
-    word: &[u8],
+pub fn part_into<S: Symbol>(
+    word: &[S],
     edition: Edition,
     first: u32,
     last: u32,
@@ -170,7 +171,7 @@ pub fn part_into(
     values(|[unit, turns, rest, block], index| {
         // SAFETY: as said at the head of this file.
         unsafe {
-            raw::cegridom_part(
+            (S::CALLS.part)(
                 word,
                 n,
                 edition,
@@ -209,11 +210,11 @@ pub fn part_into(
 /// assert_eq!(table[1], Run { first: 3, last: 4, unit: 1, root: 3 });
 /// assert_eq!(table[2], Run::default());
 /// ```
-pub fn runs_into(word: &[u8], table: &mut [Run]) -> Result<usize, Refusal> {
+pub fn runs_into<S: Symbol>(word: &[S], table: &mut [Run]) -> Result<usize, Refusal> {
     let (n, word) = (word.len(), word.as_ptr());
     let (places, table) = (RUN_PLACES * table.len(), table.as_mut_ptr().cast());
     // SAFETY: as said at the head of this file; a run is `RUN_PLACES` numbers.
-    count(|count, index| unsafe { raw::cegridom_runs(word, n, table, places, count, index) })
+    count(|count, index| unsafe { (S::CALLS.runs)(word, n, table, places, count, index) })
 }
 
 /// Writes the numbers of the runs that have a white node at a position, rising, and gives how many
@@ -232,8 +233,8 @@ pub fn runs_into(word: &[u8], table: &mut [Run]) -> Result<usize, Refusal> {
 /// assert_eq!(table, [2, 4, 0]);
 /// assert_eq!(nodes_into(b"aabaabaa", Edition::Two, 8, &mut table), Ok(0));
 /// ```
-pub fn nodes_into(
-    word: &[u8],
+pub fn nodes_into<S: Symbol>(
+    word: &[S],
     edition: Edition,
     position: u32,
     table: &mut [u32],
@@ -243,7 +244,7 @@ pub fn nodes_into(
     let (places, table) = (table.len(), table.as_mut_ptr());
     // SAFETY: as said at the head of this file.
     count(|count, index| unsafe {
-        raw::cegridom_nodes(word, n, edition, position, table, places, count, index)
+        (S::CALLS.nodes)(word, n, edition, position, table, places, count, index)
     })
 }
 
@@ -273,8 +274,8 @@ pub fn nodes_into(
 /// assert_eq!(ends, [4, 4, 9]);
 /// assert_eq!(work[..5], [0, NONE, NONE, 1, 1]);
 /// ```
-pub fn best_split_into(
-    word: &[u8],
+pub fn best_split_into<S: Symbol>(
+    word: &[S],
     edition: Edition,
     choice: Choice,
     ends: &mut [u32],
@@ -286,7 +287,7 @@ pub fn best_split_into(
     let (work_places, work) = (work.len(), work.as_mut_ptr());
     // SAFETY: as said at the head of this file.
     count(|size, index| unsafe {
-        raw::cegridom_best_split(
+        (S::CALLS.best_split)(
             word,
             n,
             edition,
@@ -333,8 +334,8 @@ pub fn best_split_into(
 /// assert_eq!(ends, [2, 4, 9]);
 /// assert_eq!(work[..4], [0, NONE, 1, NONE]);
 /// ```
-pub fn best_squares_into(
-    word: &[u8],
+pub fn best_squares_into<S: Symbol>(
+    word: &[S],
     choice: Choice,
     ends: &mut [u32],
     work: &mut [u32],
@@ -345,7 +346,7 @@ pub fn best_squares_into(
     let (work_places, work) = (work.len(), work.as_mut_ptr());
     // SAFETY: as said at the head of this file.
     count(|size, index| unsafe {
-        raw::cegridom_best_squares(
+        (S::CALLS.best_squares)(
             word,
             n,
             choice,
@@ -382,9 +383,9 @@ pub fn best_squares_into(
 /// assert_eq!(which_first_into(b"ba", b"ab", one, &mut work), Err(Refusal::NoSplit));
 /// assert_eq!(which_first_into(b"aa", b"aaaaaaaaa", one, &mut work), Err(Refusal::ShortTable));
 /// ```
-pub fn which_first_into(
-    a: &[u8],
-    b: &[u8],
+pub fn which_first_into<S: Symbol>(
+    a: &[S],
+    b: &[S],
     edition: Edition,
     work: &mut [u32],
 ) -> Result<Which, Refusal> {
@@ -394,9 +395,7 @@ pub fn which_first_into(
     let (work_places, work) = (work.len(), work.as_mut_ptr());
     values(|[which], index| {
         // SAFETY: as said at the head of this file.
-        unsafe {
-            raw::cegridom_which_first(a, a_n, b, b_n, edition, work, work_places, which, index)
-        }
+        unsafe { (S::CALLS.which_first)(a, a_n, b, b_n, edition, work, work_places, which, index) }
     })
     .map(|[which]| match which {
         1 => Which::First,
@@ -405,8 +404,8 @@ pub fn which_first_into(
 }
 
 /// The first block of the word that [`which_first_into`] gives, in its fewest split, the one that
-/// [`best_split_into`] writes: a part of the caller's own bytes, from that word's first symbol to
-/// the first end. It is empty where that word is empty, and where [`which_first_into`] refuses; that
+/// [`best_split_into`] writes: a part of the caller's own symbols, from that word's first to the
+/// first end. It is empty where that word is empty, and where [`which_first_into`] refuses; that
 /// function tells the two apart.
 ///
 /// The working table is used and left as by [`which_first_into`], also where that refuses. Time that
@@ -425,18 +424,18 @@ pub fn which_first_into(
 /// assert_eq!(first_block_into(short, b"", one, &mut work), b"");
 /// assert_eq!(first_block_into(b"ba", b"ab", one, &mut work), b"");
 /// ```
-pub fn first_block_into<'a>(
-    a: &'a [u8],
-    b: &'a [u8],
+pub fn first_block_into<'a, S: Symbol>(
+    a: &'a [S],
+    b: &'a [S],
     edition: Edition,
     work: &mut [u32],
-) -> &'a [u8] {
+) -> &'a [S] {
     let edition = edition.number();
     let (work_places, work) = (work.len(), work.as_mut_ptr());
     let [which, length] = values(|[which, length], _| {
         // SAFETY: as said at the head of this file.
         unsafe {
-            raw::cegridom_first_block(
+            (S::CALLS.first_block)(
                 a.as_ptr(),
                 a.len(),
                 b.as_ptr(),
@@ -471,13 +470,17 @@ pub fn first_block_into<'a>(
 /// assert_eq!(judge_split(word, one, &[]), Err(Refusal::Unfinished));
 /// assert_eq!(judge_split(word, Edition::Two, &[8]), Err(Refusal::NotBlock { index: 1 }));
 /// ```
-pub fn judge_split(word: &[u8], edition: Edition, ends: &[u32]) -> Result<usize, Refusal> {
+pub fn judge_split<S: Symbol>(
+    word: &[S],
+    edition: Edition,
+    ends: &[u32],
+) -> Result<usize, Refusal> {
     let (n, word) = (word.len(), word.as_ptr());
     let edition = edition.number();
     let (end_count, ends) = (ends.len(), ends.as_ptr());
     // SAFETY: as said at the head of this file.
     count(|blocks, index| unsafe {
-        raw::cegridom_judge_split(word, n, edition, ends, end_count, blocks, index)
+        (S::CALLS.judge_split)(word, n, edition, ends, end_count, blocks, index)
     })
 }
 
@@ -499,12 +502,12 @@ pub fn judge_split(word: &[u8], edition: Edition, ends: &[u32]) -> Result<usize,
 /// assert_eq!(judge_split(word, Edition::One, &[8]), Ok(1));
 /// assert_eq!(judge_squares(word, &[8]), Err(Refusal::NotBlock { index: 1 }));
 /// ```
-pub fn judge_squares(word: &[u8], ends: &[u32]) -> Result<usize, Refusal> {
+pub fn judge_squares<S: Symbol>(word: &[S], ends: &[u32]) -> Result<usize, Refusal> {
     let (n, word) = (word.len(), word.as_ptr());
     let (end_count, ends) = (ends.len(), ends.as_ptr());
     // SAFETY: as said at the head of this file.
     count(|blocks, index| unsafe {
-        raw::cegridom_judge_squares(word, n, ends, end_count, blocks, index)
+        (S::CALLS.judge_squares)(word, n, ends, end_count, blocks, index)
     })
 }
 
@@ -522,8 +525,8 @@ pub fn judge_squares(word: &[u8], ends: &[u32]) -> Result<usize, Refusal> {
 /// assert_eq!(path_of_split_into(b"aabaabaa", Edition::One, &[2, 8], &mut table), Ok(2));
 /// assert_eq!(table, [1, 2, 9]);
 /// ```
-pub fn path_of_split_into(
-    word: &[u8],
+pub fn path_of_split_into<S: Symbol>(
+    word: &[S],
     edition: Edition,
     ends: &[u32],
     table: &mut [u32],
@@ -534,7 +537,7 @@ pub fn path_of_split_into(
     let (places, table) = (table.len(), table.as_mut_ptr());
     // SAFETY: as said at the head of this file.
     count(|blocks, index| unsafe {
-        raw::cegridom_path_of_split(
+        (S::CALLS.path_of_split)(
             word, n, edition, ends, end_count, table, places, blocks, index,
         )
     })
@@ -559,21 +562,26 @@ pub fn path_of_split_into(
 /// assert_eq!(judge_path(word, one, &[first]), Err(Refusal::Unfinished));
 /// assert_eq!(judge_path(word, Edition::Two, &[first]), Err(Refusal::NotBlock { index: 1 }));
 /// ```
-pub fn judge_path(word: &[u8], edition: Edition, path: &[Step]) -> Result<usize, Refusal> {
+pub fn judge_path<S: Symbol>(
+    word: &[S],
+    edition: Edition,
+    path: &[Step],
+) -> Result<usize, Refusal> {
     let (n, word) = (word.len(), word.as_ptr());
     let edition = edition.number();
     let (number_count, numbers) = (STEP_PLACES * path.len(), path.as_ptr().cast());
     // SAFETY: as said at the head of this file; a step is `STEP_PLACES` numbers.
     count(|blocks, index| unsafe {
-        raw::cegridom_judge_path(word, n, edition, numbers, number_count, blocks, index)
+        (S::CALLS.judge_path)(word, n, edition, numbers, number_count, blocks, index)
     })
 }
 
 /// Writes the page of a split, and gives its count of bytes, [`page_bytes`](crate::page_bytes). Each
 /// block becomes one line of 60 characters and byte 10. Its number from 1, first, last, unit, turns,
 /// rest and run number take six characters each, right-aligned and filled with spaces; the run
-/// number is that of [`path_of_split_into`]. The other eighteen show the first nine symbols of the
-/// unit, two lower-case hexadecimal digits each, with spaces after a shorter unit.
+/// number is that of [`path_of_split_into`]. The other eighteen show the first symbols of the unit in
+/// lower-case hexadecimal digits, at most nine bytes of two digits each or four 16-bit symbols of
+/// four digits each, and then spaces.
 ///
 /// Refusals: 1; then for each end in turn 3, 4; then 5; then 7. Time that of [`runs_into`], and
 /// linear in the bytes; 147 KiB of stack.
@@ -589,9 +597,14 @@ pub fn judge_path(word: &[u8], edition: Edition, path: &[Step]) -> Result<usize,
 /// ];
 /// assert_eq!(out[..122], lines.concat());
 /// assert_eq!(out[122], b'.');
+///
+/// let word = [0x1234u16, 0xff, 3, 4, 5].repeat(2);
+/// assert_eq!(write_page_into(&word, Edition::One, &[10], &mut out), Ok(61));
+/// let line = b"     1     1    10     5     2     0     1123400ff00030004  \n";
+/// assert_eq!(out[..61], line[..]);
 /// ```
-pub fn write_page_into(
-    word: &[u8],
+pub fn write_page_into<S: Symbol>(
+    word: &[S],
     edition: Edition,
     ends: &[u32],
     out: &mut [u8],
@@ -602,7 +615,7 @@ pub fn write_page_into(
     let (room, out) = (out.len(), out.as_mut_ptr());
     // SAFETY: as said at the head of this file.
     count(|bytes, index| unsafe {
-        raw::cegridom_write_page(word, n, edition, ends, end_count, out, room, bytes, index)
+        (S::CALLS.write_page)(word, n, edition, ends, end_count, out, room, bytes, index)
     })
 }
 

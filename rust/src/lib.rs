@@ -1,16 +1,16 @@
 //! Splits of a word into blocks: a safe interface to a proved library.
 //!
-//! A *word* is a slice of bytes, at most [`LIMIT`] of them; any byte value is a symbol, and
-//! positions count from 1. The *unit* of a part is the smallest distance at which no two of its
-//! symbols differ. A *block* is a part at least twice as long as its unit in edition 1, and at
-//! least three times as long in edition 2, and its unit has at most [`UNIT_MEMORY`] symbols; a
-//! function that tests for blocks or nodes is told the [`Edition`]. A *run* is a part at least
-//! twice as long as its unit, of a unit of any length, that cannot be lengthened; runs and their
-//! numbers are the same in both editions. A *split* of a word is a series of blocks that join up to
-//! it, given by the positions of their ends. The field calls a block a repetition, its unit its
-//! smallest period, and a split a repetition factorization. A *square* is a non-empty word of any
-//! length twice over; [`best_squares_into`] and [`judge_squares`] split into squares instead of
-//! blocks, and are told no edition.
+//! A *word* is a slice of symbols, at most [`LIMIT`] of them, all bytes (`u8`) or all 16-bit codes
+//! (`u16`), as [`Symbol`] says; any value is a symbol, and positions count from 1. The *unit* of a
+//! part is the smallest distance at which no two of its symbols differ. A *block* is a part at
+//! least twice as long as its unit in edition 1, and at least three times as long in edition 2, and
+//! its unit has at most [`UNIT_MEMORY`] symbols; a function that tests for blocks or nodes is told
+//! the [`Edition`]. A *run* is a part at least twice as long as its unit, of a unit of any length,
+//! that cannot be lengthened; runs and their numbers are the same in both editions. A *split* of a
+//! word is a series of blocks that join up to it, given by the positions of their ends. The field
+//! calls a block a repetition, its unit its smallest period, and a split a repetition
+//! factorization. A *square* is a non-empty word of any length twice over; [`best_squares_into`]
+//! and [`judge_squares`] split into squares instead of blocks, and are told no edition.
 //!
 //! ```
 //! # #[cfg(feature = "alloc")] {
@@ -23,6 +23,9 @@
 //! assert_eq!(best_split(b"aaaaaa", Edition::Two, Choice::Most), Ok(vec![3, 6]));
 //! assert_eq!(best_squares(word, Choice::Fewest), Ok(vec![2, 8]));
 //! assert_eq!(part(word, Edition::One, 3, 8).unwrap().unit, 3);
+//!
+//! let codes: [u16; 8] = [300, 300, 7, 300, 300, 7, 300, 300];
+//! assert_eq!(best_split(&codes, Edition::One, Choice::Most), Ok(vec![2, 8]));
 //! # }
 //! ```
 //!
@@ -46,7 +49,9 @@
 //!
 //! No call keeps state, so any number of threads may call at once. What the archive takes of the
 //! stack is said in the text of each function, 161 KiB at most; where nothing is said, it is under
-//! 450 bytes.
+//! 450 bytes. These figures are for 16-bit symbols: bytes are widened once, on the stack, which takes
+//! 9 KiB more, or 17 where there are two words. Only the functions on a part and [`judge_split`] and
+//! [`judge_squares`] go over the bytes themselves.
 //!
 //! # What is proved
 //!
@@ -69,6 +74,7 @@ mod lent;
 mod owned;
 pub mod raw;
 mod refusal;
+mod symbol;
 
 pub use lent::{
     best_split_into, best_squares_into, first_block_into, judge_path, judge_split, judge_squares,
@@ -81,6 +87,7 @@ pub use owned::{
     path_of_split, read_plan, runs, units, which_first, write_page, write_plan, Plan,
 };
 pub use refusal::Refusal;
+pub use symbol::Symbol;
 
 /// The longest word that the library takes.
 pub const LIMIT: usize = 4096;

@@ -4,7 +4,7 @@ use crate::{
     best_split_into, best_squares_into, first_block_into, most_ends, most_runs, nodes_into,
     page_bytes, part_into, path_of_split_into, plan_bytes, read_plan_into, runs_into,
     which_first_into, work_places, write_page_into, write_plan_into, Choice, Edition, Part,
-    Refusal, Run, Which, LIMIT, NONE,
+    Refusal, Run, Symbol, Which, LIMIT, NONE,
 };
 use alloc::vec;
 use alloc::vec::Vec;
@@ -28,8 +28,8 @@ fn allowed(n: usize) -> usize {
 }
 
 /// The number of blocks to allocate for: more ends than a split has are refused whatever is lent.
-fn blocks_within(word: &[u8], ends: &[u32]) -> usize {
-    ends.len().min(most_ends(allowed(word.len())))
+fn blocks_within(n: usize, ends: &[u32]) -> usize {
+    ends.len().min(most_ends(allowed(n)))
 }
 
 /// The front of a table, in no more memory than it needs.
@@ -39,33 +39,34 @@ fn front<T>(mut table: Vec<T>, count: usize) -> Vec<T> {
     table
 }
 
-/// A table for the units of a part, of the part's length. Positions outside the word are refused
-/// whatever is lent: for them it has no more places than the word has symbols.
-fn unit_table(word: &[u8], first: u32, last: u32) -> Vec<u32> {
+/// A table for the units of a part, of the part's length, in a word of `n` symbols. Positions outside
+/// the word are refused whatever is lent: for them it has no more places than the word has symbols.
+fn unit_table(n: usize, first: u32, last: u32) -> Vec<u32> {
     let before = (first as usize).saturating_sub(1);
-    let end = allowed(word.len()).min(last as usize);
+    let end = allowed(n).min(last as usize);
     vec![0; end.saturating_sub(before)]
 }
 
-/// The ends that a call writes, which is lent a table for them and a working table.
+/// The ends that a call on a word of `n` symbols writes, which is lent a table for them and a working
+/// table.
 fn written(
-    word: &[u8],
+    n: usize,
     call: impl FnOnce(&mut [u32], &mut [u32]) -> Result<usize, Refusal>,
 ) -> Result<Vec<u32>, Refusal> {
-    let n = allowed(word.len());
+    let n = allowed(n);
     let mut ends = vec![0; most_ends(n)];
     let mut work = vec![0; work_places(n)];
     let size = call(&mut ends, &mut work)?;
     Ok(front(ends, size))
 }
 
-/// The sizes that a call leaves in its working table, which is lent no places for ends: 7 and 2 leave
-/// that table as an answer does.
+/// The sizes that a call on a word of `n` symbols leaves in its working table, which is lent no places
+/// for ends: 7 and 2 leave that table as an answer does.
 fn sizes(
-    word: &[u8],
+    n: usize,
     call: impl FnOnce(&mut [u32], &mut [u32]) -> Result<usize, Refusal>,
 ) -> Result<Vec<Option<u32>>, Refusal> {
-    let n = allowed(word.len());
+    let n = allowed(n);
     let mut work = vec![0; work_places(n)];
     match call(&mut [], &mut work) {
         Ok(_) | Err(Refusal::TooFewPlaces | Refusal::NoSplit) => {
@@ -77,7 +78,7 @@ fn sizes(
 }
 
 /// A working table for two words.
-fn work_table(a: &[u8], b: &[u8]) -> Vec<u32> {
+fn work_table<S>(a: &[S], b: &[S]) -> Vec<u32> {
     vec![0; work_places(allowed(a.len().max(b.len())))]
 }
 
@@ -96,8 +97,13 @@ fn work_table(a: &[u8], b: &[u8]) -> Vec<u32> {
 /// assert_eq!((p.unit, p.turns, p.rest, p.block), (2, 2, 1, false));
 /// assert_eq!(part(b"ababa", Edition::One, 2, 6), Err(Refusal::BadPosition));
 /// ```
-pub fn part(word: &[u8], edition: Edition, first: u32, last: u32) -> Result<Part, Refusal> {
-    let mut table = unit_table(word, first, last);
+pub fn part<S: Symbol>(
+    word: &[S],
+    edition: Edition,
+    first: u32,
+    last: u32,
+) -> Result<Part, Refusal> {
+    let mut table = unit_table(word.len(), first, last);
     part_into(word, edition, first, last, &mut table)
 }
 
@@ -115,8 +121,8 @@ pub fn part(word: &[u8], edition: Edition, first: u32, last: u32) -> Result<Part
 /// assert_eq!(units(b"ababa", 2, 3), Ok(vec![1, 2]));
 /// assert_eq!(units(b"ababa", 2, 6), Err(Refusal::BadPosition));
 /// ```
-pub fn units(word: &[u8], first: u32, last: u32) -> Result<Vec<u32>, Refusal> {
-    let mut table = unit_table(word, first, last);
+pub fn units<S: Symbol>(word: &[S], first: u32, last: u32) -> Result<Vec<u32>, Refusal> {
+    let mut table = unit_table(word.len(), first, last);
     part_into(word, Edition::One, first, last, &mut table)?;
     Ok(table)
 }
@@ -136,8 +142,12 @@ pub fn units(word: &[u8], first: u32, last: u32) -> Result<Vec<u32>, Refusal> {
 /// let unit = |i: usize| &word[runs[i].root as usize - 1..][..runs[i].unit as usize];
 /// assert_eq!((runs[0].first, runs[0].root, unit(0)), (1, 1, &b"ab"[..]));
 /// assert_eq!((runs[3].first, runs[3].root, unit(3)), (5, 6, &b"ab"[..]));
+///
+/// // Of 16-bit symbols the whole number counts: 0x0101 comes before 0x0200.
+/// let runs = cegridom::runs(&[0x0200u16, 0x0101].repeat(2)).unwrap();
+/// assert_eq!(runs[0].root, 2);
 /// ```
-pub fn runs(word: &[u8]) -> Result<Vec<Run>, Refusal> {
+pub fn runs<S: Symbol>(word: &[S]) -> Result<Vec<Run>, Refusal> {
     // Enough: the library proves that a word has fewer runs than symbols.
     let mut table = vec![Run::default(); most_runs(allowed(word.len()))];
     let count = runs_into(word, &mut table)?;
@@ -157,7 +167,7 @@ pub fn runs(word: &[u8]) -> Result<Vec<Run>, Refusal> {
 /// assert_eq!(nodes(b"aabaabaab", Edition::Two, 9), Ok(vec![2]));
 /// assert_eq!(nodes(b"aabaabaa", Edition::One, 0), Err(Refusal::BadPosition));
 /// ```
-pub fn nodes(word: &[u8], edition: Edition, position: u32) -> Result<Vec<u32>, Refusal> {
+pub fn nodes<S: Symbol>(word: &[S], edition: Edition, position: u32) -> Result<Vec<u32>, Refusal> {
     let mut table = vec![0; most_runs(allowed(word.len()))];
     let count = nodes_into(word, edition, position, &mut table)?;
     Ok(front(table, count))
@@ -181,8 +191,12 @@ pub fn nodes(word: &[u8], edition: Edition, position: u32) -> Result<Vec<u32>, R
 /// assert_eq!(best_split(b"aaaaaa", Edition::Two, Choice::Most), Ok(vec![3, 6]));
 /// assert_eq!(best_split(word, Edition::Two, Choice::Fewest), Err(Refusal::NoSplit));
 /// ```
-pub fn best_split(word: &[u8], edition: Edition, choice: Choice) -> Result<Vec<u32>, Refusal> {
-    written(word, |ends, work| {
+pub fn best_split<S: Symbol>(
+    word: &[S],
+    edition: Edition,
+    choice: Choice,
+) -> Result<Vec<u32>, Refusal> {
+    written(word.len(), |ends, work| {
         best_split_into(word, edition, choice, ends, work)
     })
 }
@@ -200,12 +214,12 @@ pub fn best_split(word: &[u8], edition: Edition, choice: Choice) -> Result<Vec<u
 ///     Ok(vec![Some(0), None, Some(1), None, Some(2)])
 /// );
 /// ```
-pub fn best_sizes(
-    word: &[u8],
+pub fn best_sizes<S: Symbol>(
+    word: &[S],
     edition: Edition,
     choice: Choice,
 ) -> Result<Vec<Option<u32>>, Refusal> {
-    sizes(word, |ends, work| {
+    sizes(word.len(), |ends, work| {
         best_split_into(word, edition, choice, ends, work)
     })
 }
@@ -230,8 +244,8 @@ pub fn best_sizes(
 /// assert_eq!(best_squares(word, Choice::Fewest), Ok(vec![6, 16, 18]));
 /// assert_eq!(best_squares(word, Choice::Most), Ok(vec![10, 12, 14, 16, 18]));
 /// ```
-pub fn best_squares(word: &[u8], choice: Choice) -> Result<Vec<u32>, Refusal> {
-    written(word, |ends, work| {
+pub fn best_squares<S: Symbol>(word: &[S], choice: Choice) -> Result<Vec<u32>, Refusal> {
+    written(word.len(), |ends, work| {
         best_squares_into(word, choice, ends, work)
     })
 }
@@ -249,8 +263,11 @@ pub fn best_squares(word: &[u8], choice: Choice) -> Result<Vec<u32>, Refusal> {
 ///     Ok(vec![Some(0), None, Some(1), None, Some(2)])
 /// );
 /// ```
-pub fn best_squares_sizes(word: &[u8], choice: Choice) -> Result<Vec<Option<u32>>, Refusal> {
-    sizes(word, |ends, work| {
+pub fn best_squares_sizes<S: Symbol>(
+    word: &[S],
+    choice: Choice,
+) -> Result<Vec<Option<u32>>, Refusal> {
+    sizes(word.len(), |ends, work| {
         best_squares_into(word, choice, ends, work)
     })
 }
@@ -274,12 +291,12 @@ pub fn best_squares_sizes(word: &[u8], choice: Choice) -> Result<Vec<Option<u32>
 /// // Only the second has blocks of three turns.
 /// assert_eq!(which_first(b"aabaabaa", b"aaabbb", Edition::Two), Ok(Which::Second));
 /// ```
-pub fn which_first(a: &[u8], b: &[u8], edition: Edition) -> Result<Which, Refusal> {
+pub fn which_first<S: Symbol>(a: &[S], b: &[S], edition: Edition) -> Result<Which, Refusal> {
     which_first_into(a, b, edition, &mut work_table(a, b))
 }
 
 /// The first block of the word that [`which_first`] gives, in its fewest split, the one that
-/// [`best_split`] gives: a part of the caller's own bytes. It is empty where that word is empty, and
+/// [`best_split`] gives: a part of the caller's own symbols. It is empty where that word is empty, and
 /// where [`which_first`] refuses; that function tells the two apart.
 ///
 /// Allocates the [`work_places`] of the longer word while it works.
@@ -295,7 +312,7 @@ pub fn which_first(a: &[u8], b: &[u8], edition: Edition) -> Result<Which, Refusa
 /// assert_eq!(first_block(b"ab", b"baa", one), b"");
 /// assert_eq!(first_block(b"aabaabaa", b"aaabbb", Edition::Two), b"aaa");
 /// ```
-pub fn first_block<'a>(a: &'a [u8], b: &'a [u8], edition: Edition) -> &'a [u8] {
+pub fn first_block<'a, S: Symbol>(a: &'a [S], b: &'a [S], edition: Edition) -> &'a [S] {
     first_block_into(a, b, edition, &mut work_table(a, b))
 }
 
@@ -314,15 +331,20 @@ pub fn first_block<'a>(a: &'a [u8], b: &'a [u8], edition: Edition) -> &'a [u8] {
 /// let path: Vec<Step> = runs.into_iter().zip(ends).map(|(run, end)| Step { run, end }).collect();
 /// assert_eq!(judge_path(word, Edition::One, &path), Ok(2));
 /// ```
-pub fn path_of_split(word: &[u8], edition: Edition, ends: &[u32]) -> Result<Vec<u32>, Refusal> {
-    let mut table = vec![0; blocks_within(word, ends)];
+pub fn path_of_split<S: Symbol>(
+    word: &[S],
+    edition: Edition,
+    ends: &[u32],
+) -> Result<Vec<u32>, Refusal> {
+    let mut table = vec![0; blocks_within(word.len(), ends)];
     let count = path_of_split_into(word, edition, ends, &mut table)?;
     Ok(front(table, count))
 }
 
 /// The page of a split: for each block a line of 60 characters and byte 10, with its number from 1,
-/// first, last, unit, turns, rest, run number, and the first nine symbols of its unit in hexadecimal
-/// digits. The text of [`write_page_into`] says how a line is laid out.
+/// first, last, unit, turns, rest, run number, and the first symbols of its unit in hexadecimal
+/// digits, nine bytes or four 16-bit symbols. The text of [`write_page_into`] says how a line is laid
+/// out.
 ///
 /// Refusals: 1; then for each end in turn 3, 4; then 5. Allocates its answer; 147 KiB of stack.
 ///
@@ -337,10 +359,17 @@ pub fn path_of_split(word: &[u8], edition: Edition, ends: &[u32]) -> Result<Vec<
 /// assert_eq!(lines[0], b"     1     1     2     1     2     0     161                \n");
 /// assert_eq!(lines[1], b"     2     3     8     3     2     0     2626161            \n");
 ///
+/// let page = write_page(&[0x61u16, 0xff00].repeat(2), Edition::One, &[4]).unwrap();
+/// assert_eq!(page, b"     1     1     4     2     2     0     10061ff00          \n");
+///
 /// assert_eq!(write_page(b"ababa", Edition::Two, &[5]), Err(Refusal::NotBlock { index: 1 }));
 /// ```
-pub fn write_page(word: &[u8], edition: Edition, ends: &[u32]) -> Result<Vec<u8>, Refusal> {
-    let mut out = vec![0; page_bytes(blocks_within(word, ends))];
+pub fn write_page<S: Symbol>(
+    word: &[S],
+    edition: Edition,
+    ends: &[u32],
+) -> Result<Vec<u8>, Refusal> {
+    let mut out = vec![0; page_bytes(blocks_within(word.len(), ends))];
     let bytes = write_page_into(word, edition, ends, &mut out)?;
     Ok(front(out, bytes))
 }

@@ -8,6 +8,9 @@
 //! into an error. [`cegridom_first_block`] alone refuses nothing and has no index. An edition is 1
 //! or 2, else the refusal is 12. The cost and the stack of a call are those of its wrapper.
 //!
+//! A function that takes a word has two forms: its name alone is for words of bytes, its name with
+//! `_16` for words of 16-bit symbols. All else is the same, the text of a page apart.
+//!
 //! # Safety
 //!
 //! Every pointer is valid for what it points to, for the whole call; no two of them overlap unless
@@ -68,10 +71,36 @@ extern "C" {
         index: *mut u32,
     ) -> u32;
 
+    /// [`cegridom_part`] for a word of 16-bit symbols.
+    pub fn cegridom_part_16(
+        word: *const u16,
+        n: usize,
+        edition: u32,
+        first: u32,
+        last: u32,
+        units: *mut u32,
+        unit_places: usize,
+        unit: *mut u32,
+        turns: *mut u32,
+        rest: *mut u32,
+        block: *mut u32,
+        index: *mut u32,
+    ) -> u32;
+
     /// Behind [`runs_into`](crate::runs_into). A run takes [`RUN_PLACES`] places of the table, and
     /// `n` times so many never get 7. Refusals: 1, 7.
     pub fn cegridom_runs(
         word: *const u8,
+        n: usize,
+        table: *mut u32,
+        places: usize,
+        count: *mut u32,
+        index: *mut u32,
+    ) -> u32;
+
+    /// [`cegridom_runs`] for a word of 16-bit symbols.
+    pub fn cegridom_runs_16(
+        word: *const u16,
         n: usize,
         table: *mut u32,
         places: usize,
@@ -91,11 +120,37 @@ extern "C" {
         index: *mut u32,
     ) -> u32;
 
+    /// [`cegridom_nodes`] for a word of 16-bit symbols.
+    pub fn cegridom_nodes_16(
+        word: *const u16,
+        n: usize,
+        edition: u32,
+        position: u32,
+        table: *mut u32,
+        places: usize,
+        count: *mut u32,
+        index: *mut u32,
+    ) -> u32;
+
     /// Behind [`best_split_into`](crate::best_split_into). The choice is 1 for the fewest blocks, 2
     /// for the most. Refusals: 1, 12, 8, 9, 2, 7. After 12 and 8 the working table keeps its
     /// contents, as after 1 and 9.
     pub fn cegridom_best_split(
         word: *const u8,
+        n: usize,
+        edition: u32,
+        choice: u32,
+        ends: *mut u32,
+        end_places: usize,
+        work: *mut u32,
+        work_places: usize,
+        size: *mut u32,
+        index: *mut u32,
+    ) -> u32;
+
+    /// [`cegridom_best_split`] for a word of 16-bit symbols.
+    pub fn cegridom_best_split_16(
+        word: *const u16,
         n: usize,
         edition: u32,
         choice: u32,
@@ -122,6 +177,19 @@ extern "C" {
         index: *mut u32,
     ) -> u32;
 
+    /// [`cegridom_best_squares`] for a word of 16-bit symbols.
+    pub fn cegridom_best_squares_16(
+        word: *const u16,
+        n: usize,
+        choice: u32,
+        ends: *mut u32,
+        end_places: usize,
+        work: *mut u32,
+        work_places: usize,
+        size: *mut u32,
+        index: *mut u32,
+    ) -> u32;
+
     /// Behind [`which_first_into`](crate::which_first_into). `*which` is 1 for `a`, 2 for `b`.
     /// Refusals: 1 for either; 12; 9 for the longer; 2 if neither can be split. After 12 the working
     /// table keeps its contents, as after 1 and 9.
@@ -129,6 +197,19 @@ extern "C" {
         a: *const u8,
         a_n: usize,
         b: *const u8,
+        b_n: usize,
+        edition: u32,
+        work: *mut u32,
+        work_places: usize,
+        which: *mut u32,
+        index: *mut u32,
+    ) -> u32;
+
+    /// [`cegridom_which_first`] for words of 16-bit symbols.
+    pub fn cegridom_which_first_16(
+        a: *const u16,
+        a_n: usize,
+        b: *const u16,
         b_n: usize,
         edition: u32,
         work: *mut u32,
@@ -152,9 +233,33 @@ extern "C" {
         length: *mut u32,
     ) -> u32;
 
+    /// [`cegridom_first_block`] for words of 16-bit symbols.
+    pub fn cegridom_first_block_16(
+        a: *const u16,
+        a_n: usize,
+        b: *const u16,
+        b_n: usize,
+        edition: u32,
+        work: *mut u32,
+        work_places: usize,
+        which: *mut u32,
+        length: *mut u32,
+    ) -> u32;
+
     /// Behind [`judge_split`](crate::judge_split). Refusals: 1; 12; for each end in turn 3, 4; 5.
     pub fn cegridom_judge_split(
         word: *const u8,
+        n: usize,
+        edition: u32,
+        ends: *const u32,
+        end_count: usize,
+        blocks: *mut u32,
+        index: *mut u32,
+    ) -> u32;
+
+    /// [`cegridom_judge_split`] for a word of 16-bit symbols.
+    pub fn cegridom_judge_split_16(
+        word: *const u16,
         n: usize,
         edition: u32,
         ends: *const u32,
@@ -173,10 +278,33 @@ extern "C" {
         index: *mut u32,
     ) -> u32;
 
+    /// [`cegridom_judge_squares`] for a word of 16-bit symbols.
+    pub fn cegridom_judge_squares_16(
+        word: *const u16,
+        n: usize,
+        ends: *const u32,
+        end_count: usize,
+        blocks: *mut u32,
+        index: *mut u32,
+    ) -> u32;
+
     /// Behind [`path_of_split_into`](crate::path_of_split_into). Refusals: 1; 12; for each end in
     /// turn 3, 4; 5; 7.
     pub fn cegridom_path_of_split(
         word: *const u8,
+        n: usize,
+        edition: u32,
+        ends: *const u32,
+        end_count: usize,
+        table: *mut u32,
+        places: usize,
+        blocks: *mut u32,
+        index: *mut u32,
+    ) -> u32;
+
+    /// [`cegridom_path_of_split`] for a word of 16-bit symbols.
+    pub fn cegridom_path_of_split_16(
+        word: *const u16,
         n: usize,
         edition: u32,
         ends: *const u32,
@@ -199,10 +327,34 @@ extern "C" {
         index: *mut u32,
     ) -> u32;
 
+    /// [`cegridom_judge_path`] for a word of 16-bit symbols.
+    pub fn cegridom_judge_path_16(
+        word: *const u16,
+        n: usize,
+        edition: u32,
+        numbers: *const u32,
+        number_count: usize,
+        blocks: *mut u32,
+        index: *mut u32,
+    ) -> u32;
+
     /// Behind [`write_page_into`](crate::write_page_into). A block takes [`PAGE_LINE_BYTES`] bytes.
     /// Refusals: 1; 12; for each end in turn 3, 4; 5; 7.
     pub fn cegridom_write_page(
         word: *const u8,
+        n: usize,
+        edition: u32,
+        ends: *const u32,
+        end_count: usize,
+        out: *mut u8,
+        room: usize,
+        bytes: *mut u32,
+        index: *mut u32,
+    ) -> u32;
+
+    /// [`cegridom_write_page`] for a word of 16-bit symbols.
+    pub fn cegridom_write_page_16(
+        word: *const u16,
         n: usize,
         edition: u32,
         ends: *const u32,

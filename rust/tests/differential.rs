@@ -1,14 +1,17 @@
 //! Every call of the library against the independent implementation in `reference`: the result, the
 //! index, every value, and every place of every lent table and of what lies beside it.
 //!
+//! Every call on bytes is made again on the same numbers as 16-bit symbols, and all of that must be
+//! the same, but for the text of a page, which has its own form.
+//!
 //! One comparison is one call with all of that. Each test prints how many it made.
 
 mod reference;
 mod words;
 
-use cegridom::{raw, Choice, Edition, Refusal, Step, Which};
+use cegridom::{raw, Choice, Edition, Refusal, Step, Symbol, Which};
 use reference::Outcome::{self, Accepted, Refused};
-use reference::{Best, Rule, Run, EDITIONS, LIMIT, NONE, RUN_PLACES, UNIT_MEMORY};
+use reference::{Best, Code, Rule, Run, EDITIONS, LIMIT, NONE, RUN_PLACES, UNIT_MEMORY};
 use words::{every_word, fibonacci, last_differs, thue_morse};
 
 /// What stands in a value before a call, and beside a table.
@@ -21,6 +24,42 @@ const MARGIN: usize = 3;
 const NO_EDITIONS: [u32; 3] = [0, 3, u32::MAX];
 /// More places than any answer needs.
 const MANY: usize = 61 * LIMIT;
+
+/// A kind of symbol.
+trait Kind: Symbol + Code {
+    /// The same numbers as 16-bit symbols, of a word of bytes.
+    fn widened(word: &[Self]) -> Option<Vec<u16>>;
+}
+
+impl Kind for u8 {
+    fn widened(word: &[u8]) -> Option<Vec<u16>> {
+        Some(wide(word))
+    }
+}
+
+impl Kind for u16 {
+    fn widened(_: &[u16]) -> Option<Vec<u16>> {
+        None
+    }
+}
+
+fn wide(word: &[u8]) -> Vec<u16> {
+    word.iter().map(|&symbol| symbol.into()).collect()
+}
+
+/// Makes a call on words, by the function for their kind of symbol; of bytes then once more on the
+/// same numbers as 16-bit symbols, by the function for those.
+macro_rules! in_each_width {
+    ($kind:ident, $name:ident as $call:ident, [$($word:ident),+], $body:block) => {
+        let $call = $kind::CALLS.$name;
+        $body
+        if let ($(Some($word),)+) = ($($kind::widened($word),)+) {
+            let $call = u16::CALLS.$name;
+            $(let $word = &$word[..];)+
+            $body
+        }
+    };
+}
 
 /// A table of some places, of known contents, between guards.
 struct Lent<T> {
@@ -72,20 +111,20 @@ fn compare(result: u32, index: u32, values: &[u32], expected: &Outcome, what: &s
 #[derive(Default)]
 struct Checker {
     made: u64,
-    /// How often each refusal was met; place 0 is for accepted.
+    /// How often each refusal was met, in both widths together once; place 0 is for accepted.
     met: [u64; 13],
 }
 
 /// A word and what is known of it.
-struct Known<'a> {
-    word: &'a [u8],
+struct Known<'a, S = u8> {
+    word: &'a [S],
     runs: Vec<Run>,
     /// By edition and choice.
     bests: [[Best; 2]; 2],
 }
 
-impl<'a> Known<'a> {
-    fn of(word: &'a [u8]) -> Known<'a> {
+impl<'a, S: Kind> Known<'a, S> {
+    fn of(word: &'a [S]) -> Known<'a, S> {
         if word.len() > LIMIT {
             return Known {
                 word,
@@ -101,7 +140,7 @@ impl<'a> Known<'a> {
     }
 
     /// Without best splits, for a word that no call is to split.
-    fn unsplit(word: &'a [u8]) -> Known<'a> {
+    fn unsplit(word: &'a [S]) -> Known<'a, S> {
         Known {
             word,
             runs: reference::runs(word),
@@ -122,13 +161,13 @@ impl<'a> Known<'a> {
 }
 
 /// A word and its best splits into squares, by choice.
-struct Squared<'a> {
-    word: &'a [u8],
+struct Squared<'a, S = u8> {
+    word: &'a [S],
     bests: [Best; 2],
 }
 
-impl<'a> Squared<'a> {
-    fn of(word: &'a [u8]) -> Squared<'a> {
+impl<'a, S: Kind> Squared<'a, S> {
+    fn of(word: &'a [S]) -> Squared<'a, S> {
         let bests = match word.len() {
             0..=LIMIT => reference::best_squares(word),
             _ => Default::default(),
@@ -143,298 +182,361 @@ impl<'a> Squared<'a> {
 }
 
 impl Checker {
-    fn count(&mut self, outcome: &Outcome) {
-        self.made += 1;
+    fn meet(&mut self, outcome: &Outcome) {
         self.met[match outcome {
             Accepted(_) => 0,
             Refused(number, _) => *number as usize,
         }] += 1;
     }
 
-    fn part(&mut self, w: &[u8], edition: u32, first: u32, last: u32, places: usize) {
-        let mut lent = Lent::new(places);
-        let mut values = [GUARD; 4];
-        let mut index = GUARD;
-        let units = lent.table();
-        let [unit, turns, rest, block] = &mut values;
-        let result = unsafe {
-            raw::cegridom_part(
-                w.as_ptr(),
-                w.len(),
-                edition,
-                first,
-                last,
-                units.as_mut_ptr(),
-                units.len(),
-                unit,
-                turns,
-                rest,
-                block,
-                &mut index,
-            )
-        };
+    fn part<S: Kind>(&mut self, w: &[S], edition: u32, first: u32, last: u32, places: usize) {
         let (expected, front) = reference::part_call(w, edition, first, last, places);
-        compare(result, index, &values, &expected, "part");
-        lent.changed_to(&front, "part");
-        self.count(&expected);
+        in_each_width!(S, part as call, [w], {
+            let mut lent = Lent::new(places);
+            let mut values = [GUARD; 4];
+            let mut index = GUARD;
+            let units = lent.table();
+            let [unit, turns, rest, block] = &mut values;
+            let result = unsafe {
+                call(
+                    w.as_ptr(),
+                    w.len(),
+                    edition,
+                    first,
+                    last,
+                    units.as_mut_ptr(),
+                    units.len(),
+                    unit,
+                    turns,
+                    rest,
+                    block,
+                    &mut index,
+                )
+            };
+            compare(result, index, &values, &expected, "part");
+            lent.changed_to(&front, "part");
+            self.made += 1;
+        });
+        self.meet(&expected);
     }
 
-    fn runs(&mut self, known: &Known, places: usize) {
+    fn runs<S: Kind>(&mut self, known: &Known<S>, places: usize) {
         let w = known.word;
-        let mut lent = Lent::new(places);
-        let (mut count, mut index) = (GUARD, GUARD);
-        let table = lent.table();
-        let result = unsafe {
-            raw::cegridom_runs(
-                w.as_ptr(),
-                w.len(),
-                table.as_mut_ptr(),
-                table.len(),
-                &mut count,
-                &mut index,
-            )
-        };
         let (expected, front) = reference::runs_call(w, &known.runs, places);
-        compare(result, index, &[count], &expected, "runs");
-        lent.changed_to(&front, "runs");
-        self.count(&expected);
+        in_each_width!(S, runs as call, [w], {
+            let mut lent = Lent::new(places);
+            let (mut count, mut index) = (GUARD, GUARD);
+            let table = lent.table();
+            let result = unsafe {
+                call(
+                    w.as_ptr(),
+                    w.len(),
+                    table.as_mut_ptr(),
+                    table.len(),
+                    &mut count,
+                    &mut index,
+                )
+            };
+            compare(result, index, &[count], &expected, "runs");
+            lent.changed_to(&front, "runs");
+            self.made += 1;
+        });
+        self.meet(&expected);
     }
 
-    fn nodes(&mut self, known: &Known, edition: u32, position: u32, places: usize) {
+    fn nodes<S: Kind>(&mut self, known: &Known<S>, edition: u32, position: u32, places: usize) {
         let w = known.word;
-        let mut lent = Lent::new(places);
-        let (mut count, mut index) = (GUARD, GUARD);
-        let table = lent.table();
-        let result = unsafe {
-            raw::cegridom_nodes(
-                w.as_ptr(),
-                w.len(),
-                edition,
-                position,
-                table.as_mut_ptr(),
-                table.len(),
-                &mut count,
-                &mut index,
-            )
-        };
         let (expected, front) = reference::nodes_call(w, edition, &known.runs, position, places);
-        compare(result, index, &[count], &expected, "nodes");
-        lent.changed_to(&front, "nodes");
-        self.count(&expected);
+        in_each_width!(S, nodes as call, [w], {
+            let mut lent = Lent::new(places);
+            let (mut count, mut index) = (GUARD, GUARD);
+            let table = lent.table();
+            let result = unsafe {
+                call(
+                    w.as_ptr(),
+                    w.len(),
+                    edition,
+                    position,
+                    table.as_mut_ptr(),
+                    table.len(),
+                    &mut count,
+                    &mut index,
+                )
+            };
+            compare(result, index, &[count], &expected, "nodes");
+            lent.changed_to(&front, "nodes");
+            self.made += 1;
+        });
+        self.meet(&expected);
     }
 
-    fn best_split(
+    fn best_split<S: Kind>(
         &mut self,
-        known: &Known,
+        known: &Known<S>,
         edition: u32,
         choice: u32,
         places: usize,
         work_places: usize,
     ) {
         let w = known.word;
-        let mut ends = Lent::new(places);
-        let mut work = Lent::new(work_places);
-        let (mut size, mut index) = (GUARD, GUARD);
-        let (e, t) = (ends.table(), work.table());
-        let result = unsafe {
-            raw::cegridom_best_split(
-                w.as_ptr(),
-                w.len(),
-                edition,
-                choice,
-                e.as_mut_ptr(),
-                e.len(),
-                t.as_mut_ptr(),
-                t.len(),
-                &mut size,
-                &mut index,
-            )
-        };
         let best = known.best(edition, choice);
         let (expected, front, work_front) =
             reference::best_call(w, edition, choice, best, places, work_places);
-        compare(result, index, &[size], &expected, "best split");
-        ends.changed_to(&front, "the ends of best split");
-        work.changed_to(&work_front, "the working table of best split");
-        self.count(&expected);
+        in_each_width!(S, best_split as call, [w], {
+            let mut ends = Lent::new(places);
+            let mut work = Lent::new(work_places);
+            let (mut size, mut index) = (GUARD, GUARD);
+            let (e, t) = (ends.table(), work.table());
+            let result = unsafe {
+                call(
+                    w.as_ptr(),
+                    w.len(),
+                    edition,
+                    choice,
+                    e.as_mut_ptr(),
+                    e.len(),
+                    t.as_mut_ptr(),
+                    t.len(),
+                    &mut size,
+                    &mut index,
+                )
+            };
+            compare(result, index, &[size], &expected, "best split");
+            ends.changed_to(&front, "the ends of best split");
+            work.changed_to(&work_front, "the working table of best split");
+            self.made += 1;
+        });
+        self.meet(&expected);
     }
 
-    fn best_squares(&mut self, known: &Squared, choice: u32, places: usize, work_places: usize) {
+    fn best_squares<S: Kind>(
+        &mut self,
+        known: &Squared<S>,
+        choice: u32,
+        places: usize,
+        work_places: usize,
+    ) {
         let w = known.word;
-        let mut ends = Lent::new(places);
-        let mut work = Lent::new(work_places);
-        let (mut size, mut index) = (GUARD, GUARD);
-        let (e, t) = (ends.table(), work.table());
-        let result = unsafe {
-            raw::cegridom_best_squares(
-                w.as_ptr(),
-                w.len(),
-                choice,
-                e.as_mut_ptr(),
-                e.len(),
-                t.as_mut_ptr(),
-                t.len(),
-                &mut size,
-                &mut index,
-            )
-        };
         let (expected, front, work_front) =
             reference::best_squares_call(w, choice, known.best(choice), places, work_places);
-        compare(result, index, &[size], &expected, "best squares");
-        ends.changed_to(&front, "the ends of best squares");
-        work.changed_to(&work_front, "the working table of best squares");
-        self.count(&expected);
+        in_each_width!(S, best_squares as call, [w], {
+            let mut ends = Lent::new(places);
+            let mut work = Lent::new(work_places);
+            let (mut size, mut index) = (GUARD, GUARD);
+            let (e, t) = (ends.table(), work.table());
+            let result = unsafe {
+                call(
+                    w.as_ptr(),
+                    w.len(),
+                    choice,
+                    e.as_mut_ptr(),
+                    e.len(),
+                    t.as_mut_ptr(),
+                    t.len(),
+                    &mut size,
+                    &mut index,
+                )
+            };
+            compare(result, index, &[size], &expected, "best squares");
+            ends.changed_to(&front, "the ends of best squares");
+            work.changed_to(&work_front, "the working table of best squares");
+            self.made += 1;
+        });
+        self.meet(&expected);
     }
 
-    fn which_first(&mut self, a: &Known, b: &Known, edition: u32, work_places: usize) {
-        let mut work = Lent::new(work_places);
-        let (mut which, mut index) = (GUARD, GUARD);
-        let t = work.table();
-        let result = unsafe {
-            raw::cegridom_which_first(
-                a.word.as_ptr(),
-                a.word.len(),
-                b.word.as_ptr(),
-                b.word.len(),
-                edition,
-                t.as_mut_ptr(),
-                t.len(),
-                &mut which,
-                &mut index,
-            )
-        };
+    fn which_first<S: Kind>(
+        &mut self,
+        a: &Known<S>,
+        b: &Known<S>,
+        edition: u32,
+        work_places: usize,
+    ) {
         let (words, fewest) = pair(a, b, edition);
         let (expected, front) = reference::which_call(words, edition, fewest, work_places);
-        compare(result, index, &[which], &expected, "which first");
-        work.changed_to(&front, "the working table of which first");
-        self.count(&expected);
+        let [a, b] = words;
+        in_each_width!(S, which_first as call, [a, b], {
+            let mut work = Lent::new(work_places);
+            let (mut which, mut index) = (GUARD, GUARD);
+            let t = work.table();
+            let result = unsafe {
+                call(
+                    a.as_ptr(),
+                    a.len(),
+                    b.as_ptr(),
+                    b.len(),
+                    edition,
+                    t.as_mut_ptr(),
+                    t.len(),
+                    &mut which,
+                    &mut index,
+                )
+            };
+            compare(result, index, &[which], &expected, "which first");
+            work.changed_to(&front, "the working table of which first");
+            self.made += 1;
+        });
+        self.meet(&expected);
     }
 
-    fn first_block(&mut self, a: &Known, b: &Known, edition: u32, work_places: usize) {
-        let mut work = Lent::new(work_places);
-        let mut values = [GUARD; 2];
-        let t = work.table();
-        let [which, length] = &mut values;
-        let result = unsafe {
-            raw::cegridom_first_block(
-                a.word.as_ptr(),
-                a.word.len(),
-                b.word.as_ptr(),
-                b.word.len(),
-                edition,
-                t.as_mut_ptr(),
-                t.len(),
-                which,
-                length,
-            )
-        };
+    fn first_block<S: Kind>(
+        &mut self,
+        a: &Known<S>,
+        b: &Known<S>,
+        edition: u32,
+        work_places: usize,
+    ) {
         let (words, fewest) = pair(a, b, edition);
         let (expected, front) = reference::first_block_call(words, edition, fewest, work_places);
-        compare(result, 0, &values, &expected, "first block");
-        work.changed_to(&front, "the working table of first block");
-        self.count(&expected);
+        let [a, b] = words;
+        in_each_width!(S, first_block as call, [a, b], {
+            let mut work = Lent::new(work_places);
+            let mut values = [GUARD; 2];
+            let t = work.table();
+            let [which, length] = &mut values;
+            let result = unsafe {
+                call(
+                    a.as_ptr(),
+                    a.len(),
+                    b.as_ptr(),
+                    b.len(),
+                    edition,
+                    t.as_mut_ptr(),
+                    t.len(),
+                    which,
+                    length,
+                )
+            };
+            compare(result, 0, &values, &expected, "first block");
+            work.changed_to(&front, "the working table of first block");
+            self.made += 1;
+        });
+        self.meet(&expected);
     }
 
-    fn judge_split(&mut self, w: &[u8], edition: u32, ends: &[u32]) {
-        let (mut blocks, mut index) = (GUARD, GUARD);
-        let result = unsafe {
-            raw::cegridom_judge_split(
-                w.as_ptr(),
-                w.len(),
-                edition,
-                ends.as_ptr(),
-                ends.len(),
-                &mut blocks,
-                &mut index,
-            )
-        };
+    fn judge_split<S: Kind>(&mut self, w: &[S], edition: u32, ends: &[u32]) {
         let expected = reference::judge_split_call(w, edition, ends);
-        compare(result, index, &[blocks], &expected, "judge a split");
-        self.count(&expected);
+        in_each_width!(S, judge_split as call, [w], {
+            let (mut blocks, mut index) = (GUARD, GUARD);
+            let result = unsafe {
+                call(
+                    w.as_ptr(),
+                    w.len(),
+                    edition,
+                    ends.as_ptr(),
+                    ends.len(),
+                    &mut blocks,
+                    &mut index,
+                )
+            };
+            compare(result, index, &[blocks], &expected, "judge a split");
+            self.made += 1;
+        });
+        self.meet(&expected);
     }
 
-    fn judge_squares(&mut self, w: &[u8], ends: &[u32]) {
-        let (mut blocks, mut index) = (GUARD, GUARD);
-        let result = unsafe {
-            raw::cegridom_judge_squares(
-                w.as_ptr(),
-                w.len(),
-                ends.as_ptr(),
-                ends.len(),
-                &mut blocks,
-                &mut index,
-            )
-        };
+    fn judge_squares<S: Kind>(&mut self, w: &[S], ends: &[u32]) {
         let expected = reference::judge_squares_call(w, ends);
-        compare(result, index, &[blocks], &expected, "judge squares");
-        self.count(&expected);
+        in_each_width!(S, judge_squares as call, [w], {
+            let (mut blocks, mut index) = (GUARD, GUARD);
+            let result = unsafe {
+                call(
+                    w.as_ptr(),
+                    w.len(),
+                    ends.as_ptr(),
+                    ends.len(),
+                    &mut blocks,
+                    &mut index,
+                )
+            };
+            compare(result, index, &[blocks], &expected, "judge squares");
+            self.made += 1;
+        });
+        self.meet(&expected);
     }
 
-    fn path_of_split(&mut self, known: &Known, edition: u32, ends: &[u32], places: usize) {
+    fn path_of_split<S: Kind>(
+        &mut self,
+        known: &Known<S>,
+        edition: u32,
+        ends: &[u32],
+        places: usize,
+    ) {
         let w = known.word;
-        let mut lent = Lent::new(places);
-        let (mut blocks, mut index) = (GUARD, GUARD);
-        let table = lent.table();
-        let result = unsafe {
-            raw::cegridom_path_of_split(
-                w.as_ptr(),
-                w.len(),
-                edition,
-                ends.as_ptr(),
-                ends.len(),
-                table.as_mut_ptr(),
-                table.len(),
-                &mut blocks,
-                &mut index,
-            )
-        };
         let (expected, front) = reference::path_call(w, edition, &known.runs, ends, places);
-        compare(result, index, &[blocks], &expected, "path of a split");
-        lent.changed_to(&front, "path of a split");
-        self.count(&expected);
+        in_each_width!(S, path_of_split as call, [w], {
+            let mut lent = Lent::new(places);
+            let (mut blocks, mut index) = (GUARD, GUARD);
+            let table = lent.table();
+            let result = unsafe {
+                call(
+                    w.as_ptr(),
+                    w.len(),
+                    edition,
+                    ends.as_ptr(),
+                    ends.len(),
+                    table.as_mut_ptr(),
+                    table.len(),
+                    &mut blocks,
+                    &mut index,
+                )
+            };
+            compare(result, index, &[blocks], &expected, "path of a split");
+            lent.changed_to(&front, "path of a split");
+            self.made += 1;
+        });
+        self.meet(&expected);
     }
 
-    fn judge_path(&mut self, known: &Known, edition: u32, numbers: &[u32]) {
+    fn judge_path<S: Kind>(&mut self, known: &Known<S>, edition: u32, numbers: &[u32]) {
         let w = known.word;
-        let (mut blocks, mut index) = (GUARD, GUARD);
-        let result = unsafe {
-            raw::cegridom_judge_path(
-                w.as_ptr(),
-                w.len(),
-                edition,
-                numbers.as_ptr(),
-                numbers.len(),
-                &mut blocks,
-                &mut index,
-            )
-        };
         let expected = reference::judge_path_call(w, edition, &known.runs, numbers);
-        compare(result, index, &[blocks], &expected, "judge a path");
-        self.count(&expected);
+        in_each_width!(S, judge_path as call, [w], {
+            let (mut blocks, mut index) = (GUARD, GUARD);
+            let result = unsafe {
+                call(
+                    w.as_ptr(),
+                    w.len(),
+                    edition,
+                    numbers.as_ptr(),
+                    numbers.len(),
+                    &mut blocks,
+                    &mut index,
+                )
+            };
+            compare(result, index, &[blocks], &expected, "judge a path");
+            self.made += 1;
+        });
+        self.meet(&expected);
     }
 
-    fn write_page(&mut self, known: &Known, edition: u32, ends: &[u32], room: usize) {
+    fn write_page<S: Kind>(&mut self, known: &Known<S>, edition: u32, ends: &[u32], room: usize) {
         let w = known.word;
-        let mut lent = Lent::new(room);
-        let (mut bytes, mut index) = (GUARD, GUARD);
-        let out = lent.table();
-        let result = unsafe {
-            raw::cegridom_write_page(
-                w.as_ptr(),
-                w.len(),
-                edition,
-                ends.as_ptr(),
-                ends.len(),
-                out.as_mut_ptr(),
-                out.len(),
-                &mut bytes,
-                &mut index,
-            )
-        };
-        let (expected, front) = reference::page_call(w, edition, &known.runs, ends, room);
-        compare(result, index, &[bytes], &expected, "write a page");
-        lent.changed_to(&front, "write a page");
-        self.count(&expected);
+        let mut met = None;
+        in_each_width!(S, write_page as call, [w], {
+            let mut lent = Lent::new(room);
+            let (mut bytes, mut index) = (GUARD, GUARD);
+            let out = lent.table();
+            let result = unsafe {
+                call(
+                    w.as_ptr(),
+                    w.len(),
+                    edition,
+                    ends.as_ptr(),
+                    ends.len(),
+                    out.as_mut_ptr(),
+                    out.len(),
+                    &mut bytes,
+                    &mut index,
+                )
+            };
+            let (expected, front) = reference::page_call(w, edition, &known.runs, ends, room);
+            compare(result, index, &[bytes], &expected, "write a page");
+            lent.changed_to(&front, "write a page");
+            met.get_or_insert(expected);
+            self.made += 1;
+        });
+        self.meet(&met.unwrap());
     }
 
     fn write_plan(&mut self, n: u32, ends: &[u32], places: usize) {
@@ -455,7 +557,8 @@ impl Checker {
         let (expected, front) = reference::write_call(n, ends, places);
         compare(result, index, &[bytes], &expected, "write a plan");
         lent.changed_to(&front, "write a plan");
-        self.count(&expected);
+        self.made += 1;
+        self.meet(&expected);
     }
 
     fn read_plan(&mut self, line: &[u8], places: usize) {
@@ -477,12 +580,13 @@ impl Checker {
         let what = || format!("read a plan {:?}", String::from_utf8_lossy(line));
         compare(result, index, &[n, count], &expected, &what());
         lent.changed_to(&front, "read a plan");
-        self.count(&expected);
+        self.made += 1;
+        self.meet(&expected);
     }
 
     // ---- one call with every size of table
 
-    fn part_sizes(&mut self, w: &[u8], edition: u32, first: u32, last: u32) {
+    fn part_sizes<S: Kind>(&mut self, w: &[S], edition: u32, first: u32, last: u32) {
         let n = w.len();
         let length = (last as usize + 1).saturating_sub(first as usize);
         // A part longer than the word is refused, whatever is lent.
@@ -491,7 +595,7 @@ impl Checker {
         }
     }
 
-    fn runs_sizes(&mut self, known: &Known) {
+    fn runs_sizes<S: Kind>(&mut self, known: &Known<S>) {
         let count = known.runs.len();
         for places in around(RUN_PLACES * count, known.word.len()) {
             self.runs(known, places);
@@ -500,7 +604,7 @@ impl Checker {
         self.runs(known, 3 * count);
     }
 
-    fn nodes_sizes(&mut self, known: &Known, edition: u32, position: u32) {
+    fn nodes_sizes<S: Kind>(&mut self, known: &Known<S>, edition: u32, position: u32) {
         let rule = Rule::of(edition).unwrap();
         let exact = reference::white(&known.runs, rule, position as usize).len();
         for places in around_in(edition, exact, known.word.len()) {
@@ -508,7 +612,7 @@ impl Checker {
         }
     }
 
-    fn best_sizes(&mut self, known: &Known, edition: u32, choice: u32) {
+    fn best_sizes<S: Kind>(&mut self, known: &Known<S>, edition: u32, choice: u32) {
         let n = known.word.len();
         let size = known.best(edition, choice).1.as_ref().map_or(0, Vec::len);
         let work = 4 * (n + 1);
@@ -521,7 +625,7 @@ impl Checker {
         }
     }
 
-    fn squares_sizes(&mut self, known: &Squared, choice: u32) {
+    fn squares_sizes<S: Kind>(&mut self, known: &Squared<S>, choice: u32) {
         let n = known.word.len();
         let size = known.best(choice).1.as_ref().map_or(0, Vec::len);
         let work = 4 * (n + 1);
@@ -537,25 +641,25 @@ impl Checker {
         self.best_squares(known, choice, 0, 0);
     }
 
-    fn two(&mut self, a: &Known, b: &Known, edition: u32, work_places: usize) {
+    fn two<S: Kind>(&mut self, a: &Known<S>, b: &Known<S>, edition: u32, work_places: usize) {
         self.which_first(a, b, edition, work_places);
         self.first_block(a, b, edition, work_places);
     }
 
-    fn two_sizes(&mut self, a: &Known, b: &Known, edition: u32) {
+    fn two_sizes<S: Kind>(&mut self, a: &Known<S>, b: &Known<S>, edition: u32) {
         let longer = a.word.len().max(b.word.len());
         for work_places in around_in(edition, 4 * (longer + 1), longer) {
             self.two(a, b, edition, work_places);
         }
     }
 
-    fn path_sizes(&mut self, known: &Known, edition: u32, ends: &[u32]) {
+    fn path_sizes<S: Kind>(&mut self, known: &Known<S>, edition: u32, ends: &[u32]) {
         for places in around_in(edition, ends.len(), known.word.len()) {
             self.path_of_split(known, edition, ends, places);
         }
     }
 
-    fn page_sizes(&mut self, known: &Known, edition: u32, ends: &[u32]) {
+    fn page_sizes<S: Kind>(&mut self, known: &Known<S>, edition: u32, ends: &[u32]) {
         for room in around_in(edition, page_bytes(ends), known.word.len()) {
             self.write_page(known, edition, ends, room);
         }
@@ -572,7 +676,7 @@ impl Checker {
     }
 
     /// Ends of squares and each of them changed, and the ends cut short.
-    fn squares_and_near(&mut self, w: &[u8], ends: &[u32]) {
+    fn squares_and_near<S: Kind>(&mut self, w: &[S], ends: &[u32]) {
         self.judge_squares(w, ends);
         let mut near = ends.to_vec();
         for i in 0..ends.len() {
@@ -588,7 +692,7 @@ impl Checker {
     }
 
     /// A path and its numbers changed one at a time.
-    fn path_and_near(&mut self, known: &Known, edition: u32, numbers: &[u32]) {
+    fn path_and_near<S: Kind>(&mut self, known: &Known<S>, edition: u32, numbers: &[u32]) {
         self.judge_path(known, edition, numbers);
         let mut near = numbers.to_vec();
         for i in 0..numbers.len() {
@@ -631,7 +735,11 @@ fn around_in(edition: u32, exact: usize, n: usize) -> Vec<usize> {
 }
 
 /// Two words and the fewest split of each.
-fn pair<'a>(a: &'a Known, b: &'a Known, edition: u32) -> ([&'a [u8]; 2], [&'a Best; 2]) {
+fn pair<'a, S: Kind>(
+    a: &'a Known<S>,
+    b: &'a Known<S>,
+    edition: u32,
+) -> ([&'a [S]; 2], [&'a Best; 2]) {
     let both = [a, b];
     (both.map(|k| k.word), both.map(|k| k.best(edition, 1)))
 }
@@ -765,6 +873,29 @@ impl Numbers {
     }
 }
 
+/// Ways to write a byte as a 16-bit symbol of which both bytes count.
+const SPELLINGS: [fn(u8) -> u16; 6] = [
+    // the low bytes are equal
+    |symbol| 256 * u16::from(symbol),
+    |symbol| 256 * u16::from(symbol) + 255,
+    // both bytes are the symbol
+    |symbol| 257 * u16::from(symbol),
+    // on both sides of 0x8000
+    |symbol| 0x7f80 + u16::from(symbol),
+    // the high bytes are equal, and the order is turned about
+    |symbol| !u16::from(symbol),
+    in_high_byte_first,
+];
+
+/// The high byte goes with the symbol, and the low byte against it.
+fn in_high_byte_first(symbol: u8) -> u16 {
+    u16::from_be_bytes([symbol, !symbol])
+}
+
+fn spelt(word: &[u8], spelling: impl Fn(u8) -> u16) -> Vec<u16> {
+    word.iter().map(|&symbol| spelling(symbol)).collect()
+}
+
 /// Words of a length that have structure: equal symbols, a last symbol that differs, Fibonacci,
 /// Thue-Morse, a unit of 64, blocks joined, and random ones.
 fn structured(n: usize) -> Vec<Vec<u8>> {
@@ -895,9 +1026,27 @@ fn most_squares_have_primitive_halves() {
 /// that of the other from some start.
 #[test]
 fn roots_tell_units_apart() {
-    let mut made = 0u64;
-    let mut other_starts = 0u64;
-    let mut look = |w: &[u8]| {
+    let mut told = Told::default();
+    every_short_word(|w| told.apart(w));
+    for w in structured(300) {
+        told.apart(&w);
+        for spelling in SPELLINGS {
+            told.apart(&spelt(&w, spelling));
+        }
+    }
+    assert!(told.other_starts > 0);
+    println!("roots of runs of equal unit: {} comparisons", told.made);
+}
+
+#[derive(Default)]
+struct Told {
+    made: u64,
+    /// How many runs wind one unit from different starts.
+    other_starts: u64,
+}
+
+impl Told {
+    fn apart<S: Kind>(&mut self, w: &[S]) {
         let runs = cegridom::runs(w).unwrap();
         let symbols = |from: u32, unit: u32| &w[from as usize - 1..][..unit as usize];
         for a in &runs {
@@ -906,41 +1055,43 @@ fn roots_tell_units_apart() {
                 let from_some_start = x.repeat(2).windows(y.len()).any(|part| part == y);
                 let same = symbols(a.root, a.unit) == symbols(b.root, b.unit);
                 assert_eq!(same, from_some_start, "{w:?} {a:?} {b:?}");
-                other_starts += u64::from(same && x != y);
-                made += 1;
+                self.other_starts += u64::from(same && x != y);
+                self.made += 1;
             }
         }
-    };
-    every_short_word(&mut look);
-    for w in structured(300) {
-        look(&w);
     }
-    assert!(other_starts > 0);
-    println!("roots of runs of equal unit: {made} comparisons");
 }
 
 // ---- the library against the reference
 
 /// The runs of a word, with just the places that they need.
-fn rooted(checker: &mut Checker, w: &[u8]) {
+fn rooted<S: Kind>(checker: &mut Checker, w: &[S]) {
     let known = Known::unsplit(w);
     checker.runs(&known, RUN_PLACES * known.runs.len());
+}
+
+/// The word with the letters of an alphabet for its symbols.
+fn lettered<S: Kind>(word: &[u8], alphabet: &[S]) -> Vec<S> {
+    let letter = |&symbol: &u8| alphabet[symbol as usize];
+    word.iter().map(letter).collect()
 }
 
 /// Symbols in either order, and on either side of 127.
 #[test]
 fn roots_go_by_symbol_codes() {
     let mut checker = Checker::default();
-    let spelt = |w: &[u8], alphabet: &[u8]| -> Vec<u8> {
-        w.iter().map(|&symbol| alphabet[symbol as usize]).collect()
-    };
-    for (low, high) in [(0, 255), (1, 128), (100, 200), (127, 128), (128, 129)] {
+    for (low, high) in [(0u8, 255), (1, 128), (100, 200), (127, 128), (128, 129)] {
         for alphabet in [[low, high], [high, low]] {
-            every_word(2, 12, |w| rooted(&mut checker, &spelt(w, &alphabet)));
+            every_word(2, 12, |w| rooted(&mut checker, &lettered(w, &alphabet)));
         }
     }
-    for alphabet in [[1, 127, 128], [128, 127, 1], [255, 0, 128], [127, 255, 128]] {
-        every_word(3, 8, |w| rooted(&mut checker, &spelt(w, &alphabet)));
+    for alphabet in [
+        [1u8, 127, 128],
+        [128, 127, 1],
+        [255, 0, 128],
+        [127, 255, 128],
+    ] {
+        every_word(3, 8, |w| rooted(&mut checker, &lettered(w, &alphabet)));
     }
     checker.report("roots of short words");
 }
@@ -1120,7 +1271,7 @@ fn longest_words_squares() {
 }
 
 /// The best splits of a word into squares, others that are given, and what is near them.
-fn long_squares(checker: &mut Checker, numbers: &mut Numbers, w: &[u8], ends: &[u32]) {
+fn long_squares<S: Kind>(checker: &mut Checker, numbers: &mut Numbers, w: &[S], ends: &[u32]) {
     let known = Squared::of(w);
     let work = 4 * (w.len() + 1);
     for choice in [1, 2] {
@@ -1180,7 +1331,7 @@ fn powers_inside_powers(longest: usize) -> Vec<Vec<u8>> {
 
 /// The best splits of a word into squares, and of its longest prefixes that have one: of the word alone
 /// each call hands over the ends, of its prefixes only the sizes.
-fn squares_of_prefixes(checker: &mut Checker, w: &[u8]) {
+fn squares_of_prefixes<S: Kind>(checker: &mut Checker, w: &[S]) {
     let known = Squared::of(w);
     for choice in [1, 2] {
         checker.squares_sizes(&known, choice);
@@ -1263,7 +1414,7 @@ fn squares_of_changed_powers() {
     checker.report("squares of changed powers");
 }
 
-fn all_known(words: &[Vec<u8>]) -> Vec<Known<'_>> {
+fn all_known<S: Kind>(words: &[Vec<S>]) -> Vec<Known<'_, S>> {
     words.iter().map(|w| Known::of(w)).collect()
 }
 
@@ -1507,10 +1658,10 @@ fn pages() {
 }
 
 /// The page of a split and what is near it.
-fn page_and_near(
+fn page_and_near<S: Kind>(
     checker: &mut Checker,
     numbers: &mut Numbers,
-    w: &[u8],
+    w: &[S],
     edition: u32,
     ends: &[u32],
 ) {
@@ -1567,7 +1718,7 @@ fn longest_words() {
     checker.report("longest words");
 }
 
-fn long_word(checker: &mut Checker, numbers: &mut Numbers, w: &[u8]) {
+fn long_word<S: Kind>(checker: &mut Checker, numbers: &mut Numbers, w: &[S]) {
     let known = Known::of(w);
     let n = w.len();
     for _ in 0..20 {
@@ -1612,10 +1763,10 @@ fn long_word(checker: &mut Checker, numbers: &mut Numbers, w: &[u8]) {
 }
 
 /// The best split, its path and what is near them, where there is one.
-fn long_split(
+fn long_split<S: Kind>(
     checker: &mut Checker,
     numbers: &mut Numbers,
-    known: &Known,
+    known: &Known<S>,
     edition: u32,
     choice: u32,
 ) {
@@ -1660,7 +1811,7 @@ fn lengths_at_powers_of_two(least: usize) -> impl Iterator<Item = usize> {
 }
 
 /// The runs of a word, its nodes at the cuts and beside them, and at both ends.
-fn runs_and_nodes(checker: &mut Checker, w: &[u8]) {
+fn runs_and_nodes<S: Kind>(checker: &mut Checker, w: &[S]) {
     let (known, n) = (Known::unsplit(w), w.len());
     checker.runs_sizes(&known);
     for position in [1, n / 4, n / 2, n / 2 + 1, n - n / 4, n - 1, n] {
@@ -1842,7 +1993,7 @@ fn beside(numbers: &mut Numbers, turn: usize, word: &[u8]) -> Vec<u8> {
 
 /// The number of the run that encloses each piece and has its unit, whether memory holds it or not; 0
 /// where there is none.
-fn enclosing(known: &Known, ends: &[u32]) -> Vec<u32> {
+fn enclosing<S: Kind>(known: &Known<S>, ends: &[u32]) -> Vec<u32> {
     let befores = [0].iter().chain(ends);
     let pieces = befores.zip(ends).map(|(&a, &b)| (a as usize, b as usize));
     let number = |(a, b): (usize, usize)| {
@@ -1856,7 +2007,7 @@ fn enclosing(known: &Known, ends: &[u32]) -> Vec<u32> {
 }
 
 /// What the calls that are given ends say of them, and judge a path of the runs that go with them.
-fn judged(checker: &mut Checker, known: &Known, edition: u32, ends: &[u32]) {
+fn judged<S: Kind>(checker: &mut Checker, known: &Known<S>, edition: u32, ends: &[u32]) {
     checker.judge_split(known.word, edition, ends);
     checker.path_of_split(known, edition, ends, ends.len());
     checker.write_page(known, edition, ends, page_bytes(ends));
@@ -1865,7 +2016,7 @@ fn judged(checker: &mut Checker, known: &Known, edition: u32, ends: &[u32]) {
 }
 
 /// The best splits of a word, with the whole of both tables.
-fn best_splits(checker: &mut Checker, known: &Known) {
+fn best_splits<S: Kind>(checker: &mut Checker, known: &Known<S>) {
     for edition in EDITIONS {
         for choice in [1, 2] {
             let size = known.best(edition, choice).1.as_ref().map_or(0, Vec::len);
@@ -1875,7 +2026,7 @@ fn best_splits(checker: &mut Checker, known: &Known) {
 }
 
 /// The same, and the best splits judged.
-fn best_splits_judged(checker: &mut Checker, known: &Known) {
+fn best_splits_judged<S: Kind>(checker: &mut Checker, known: &Known<S>) {
     best_splits(checker, known);
     for edition in EDITIONS {
         for best in &known.bests[edition as usize - 1] {
@@ -1889,7 +2040,7 @@ fn best_splits_judged(checker: &mut Checker, known: &Known) {
 /// The parts, nodes, splits and paths of the runs of a word with units about what memory holds: with
 /// one symbol fewer than the turns of the edition, with these, with one more, and all of them; alone,
 /// and after the piece before the run.
-fn about_memory(checker: &mut Checker, known: &Known) {
+fn about_memory<S: Kind>(checker: &mut Checker, known: &Known<S>) {
     let (w, n) = (known.word, known.word.len());
     let about = UNIT_MEMORY - 1..=UNIT_MEMORY + 1;
     for &(first, last, unit, _) in known.runs.iter().filter(|run| about.contains(&run.2)) {
@@ -2151,6 +2302,358 @@ fn squares_of_long_halves() {
         }
     }
     checker.report("squares of long halves");
+}
+
+// ---- 16-bit symbols that are no bytes
+
+/// Two codes that have the same low byte, or the same high byte, or that a sign would order otherwise,
+/// in either order.
+const PAIRS_OF_CODES: [[u16; 2]; 12] = [
+    [1, 257],
+    [257, 1],
+    [0, 256],
+    [256, 0],
+    [255, 256],
+    [256, 255],
+    [0, 65_535],
+    [65_535, 0],
+    [0x7fff, 0x8000],
+    [0x8000, 0x7fff],
+    [0x00ff, 0xff00],
+    [0xff00, 0x00ff],
+];
+
+const TRIPLES_OF_CODES: [[u16; 3]; 6] = [
+    [0, 256, 65_535],
+    [255, 256, 257],
+    [513, 1, 257],
+    [0x8000, 0, 0x7fff],
+    [0xff7f, 0xff80, 0x0080],
+    [65_535, 65_279, 255],
+];
+
+/// Every call on one short word, with tables of several sizes and with every rising series of ends.
+fn short_word<S: Kind>(checker: &mut Checker, w: &[S]) {
+    let (known, squared, n) = (Known::of(w), Squared::of(w), w.len() as u32);
+    checker.runs_sizes(&known);
+    for choice in [1, 2] {
+        checker.squares_sizes(&squared, choice);
+    }
+    for ends in rising_ends(n) {
+        checker.judge_squares(w, &ends);
+    }
+    for edition in EDITIONS {
+        for first in 0..=n + 1 {
+            for last in 0..=n + 1 {
+                checker.part_sizes(w, edition, first, last);
+            }
+        }
+        for position in 0..=n + 1 {
+            checker.nodes_sizes(&known, edition, position);
+        }
+        for choice in [1, 2] {
+            checker.best_sizes(&known, edition, choice);
+        }
+        for ends in rising_ends(n) {
+            checker.judge_split(w, edition, &ends);
+            checker.path_of_split(&known, edition, &ends, ends.len());
+            checker.write_page(&known, edition, &ends, page_bytes(&ends));
+        }
+        let rule = Rule::of(edition).unwrap();
+        for ends in reference::plain_splits(w, rule) {
+            checker.path_sizes(&known, edition, &ends);
+            checker.page_sizes(&known, edition, &ends);
+        }
+        for path in reference::plain_paths(&known.runs, rule, w.len(), w.len()) {
+            checker.path_and_near(&known, edition, &path);
+        }
+    }
+    for edition in NO_EDITIONS {
+        checker.part(w, edition, 1, n, w.len());
+        checker.nodes(&known, edition, n, w.len());
+        checker.best_split(&known, edition, 1, w.len(), 4 * (w.len() + 1));
+        checker.judge_split(w, edition, &[n]);
+        checker.path_of_split(&known, edition, &[n], 1);
+        checker.judge_path(&known, edition, &[1, n]);
+        checker.write_page(&known, edition, &[n], 61);
+    }
+}
+
+#[test]
+fn short_words_of_codes() {
+    let mut checker = Checker::default();
+    for alphabet in PAIRS_OF_CODES {
+        every_word(2, 7, |w| short_word(&mut checker, &lettered(w, &alphabet)));
+    }
+    for alphabet in TRIPLES_OF_CODES {
+        every_word(3, 5, |w| short_word(&mut checker, &lettered(w, &alphabet)));
+    }
+    checker.report("short words of codes");
+}
+
+/// Every two short words, of one alphabet and of two that have the same low bytes.
+#[test]
+fn short_words_of_codes_in_pairs() {
+    let mut checker = Checker::default();
+    let alphabets = [[1u16, 257], [257, 513], [0x7fff, 0x8000], [0xffff, 0x00ff]];
+    let mut words = Vec::new();
+    for alphabet in alphabets {
+        every_word(2, 5, |w| words.push(lettered(w, &alphabet)));
+    }
+    let known = all_known(&words);
+    for a in &known {
+        for b in &known {
+            for edition in EDITIONS {
+                checker.two_sizes(a, b, edition);
+            }
+            checker.two(a, b, NO_EDITIONS[a.word.len() % 3], 4 * 6);
+        }
+    }
+    checker.report("short words of codes in pairs");
+}
+
+#[test]
+fn long_words_of_codes_in_pairs() {
+    let mut checker = Checker::default();
+    let mut numbers = Numbers(1_013_904_223);
+    let mut words = words_to_pair(&mut numbers);
+    words.extend([fibonacci(LIMIT), numbers.split(LIMIT, 3, 40, 3).0]);
+    let spelling = |(i, w): (usize, &Vec<u8>)| spelt(w, SPELLINGS[i % SPELLINGS.len()]);
+    let words: Vec<Vec<u16>> = words.iter().enumerate().map(spelling).collect();
+    let known = all_known(&words);
+    for a in &known {
+        for b in &known {
+            let longer = a.word.len().max(b.word.len());
+            for edition in EDITIONS {
+                checker.two(a, b, edition, 4 * (longer + 1));
+                checker.two(a, b, edition, 4 * (longer + 1) - 1);
+            }
+        }
+    }
+    checker.report("long words of codes in pairs");
+}
+
+/// The words of the other tests, spelt in codes.
+#[test]
+fn long_words_of_codes() {
+    let mut checker = Checker::default();
+    let mut numbers = Numbers(1_099_511_628);
+    for n in [11, 40, 64, 65, 130, 256, 257, 520] {
+        for (i, w) in structured(n).into_iter().chain([run_rich(n)]).enumerate() {
+            let (first, second) = (i % SPELLINGS.len(), (i + n) % SPELLINGS.len());
+            for spelling in [SPELLINGS[first], SPELLINGS[second]] {
+                let w = spelt(&w, spelling);
+                long_word(&mut checker, &mut numbers, &w);
+                long_squares(&mut checker, &mut numbers, &w, &[]);
+            }
+        }
+    }
+    // Random words, and blocks and squares joined, with one symbol changed in one bit.
+    for turn in 0..400 {
+        let n = 2 + numbers.below(300);
+        let symbols = [2, 3, 4, 256][numbers.below(4)];
+        let bytes = match turn % 3 {
+            0 => numbers.word(n, symbols),
+            1 => numbers.joined(n, 2 + turn % 2, 12),
+            _ => [numbers.squares(n, 9, symbols).0, vec![0, 0]].concat(),
+        };
+        let mut w = spelt(&bytes, SPELLINGS[turn % SPELLINGS.len()]);
+        long_word(&mut checker, &mut numbers, &w);
+        long_squares(&mut checker, &mut numbers, &w, &[]);
+        let at = numbers.below(w.len());
+        w[at] ^= 1 << numbers.below(16);
+        long_word(&mut checker, &mut numbers, &w);
+        long_squares(&mut checker, &mut numbers, &w, &[]);
+    }
+    checker.report("long words of codes");
+}
+
+#[test]
+fn longest_words_of_codes() {
+    let mut checker = Checker::default();
+    let mut numbers = Numbers(2_654_435_761);
+    for (i, w) in structured(LIMIT).into_iter().enumerate() {
+        let w = spelt(&w, SPELLINGS[i % SPELLINGS.len()]);
+        long_word(&mut checker, &mut numbers, &w);
+        long_squares(&mut checker, &mut numbers, &w, &[]);
+    }
+    checker.report("longest words of codes");
+}
+
+/// A word and a word that differs from it in one bit of one symbol, beside each other and judged by
+/// what is true of the other.
+#[test]
+fn one_bit_of_a_code() {
+    let mut checker = Checker::default();
+    for bit in 0..16 {
+        for (length, turns) in [(1, 6), (3, 4), (5, 3)] {
+            let unit: Vec<u16> = (0..length).map(|i| 0x5aa5 ^ (i << 4)).collect();
+            let w = unit.repeat(turns);
+            let all = w.len() as u32;
+            for at in 0..w.len() {
+                let mut changed = w.clone();
+                changed[at] ^= 1 << bit;
+                let (known, other) = (Known::of(&w), Known::of(&changed));
+                for edition in EDITIONS {
+                    assert_eq!(
+                        reference::judge_split_call(&w, edition, &[all]),
+                        Accepted(vec![1])
+                    );
+                    checker.judge_split(&changed, edition, &[all]);
+                    checker.part(&changed, edition, 1, all, w.len());
+                    checker.judge_path(&other, edition, &[1, all]);
+                    checker.two_sizes(&known, &other, edition);
+                    checker.two_sizes(&other, &known, edition);
+                    best_splits_judged(&mut checker, &other);
+                }
+                checker.runs_sizes(&other);
+                let squared = Squared::of(&changed);
+                checker.squares_sizes(&squared, 1);
+                checker.squares_sizes(&squared, 2);
+                checker.judge_squares(&changed, &[all]);
+            }
+        }
+    }
+    checker.report("one bit of a code");
+}
+
+/// Codes in either order: the root of xyxy starts with the lesser, whichever bit tells them apart.
+#[test]
+fn roots_go_by_codes() {
+    let mut made = 0u64;
+    for x in 0..=u16::MAX {
+        for bit in 0..16 {
+            let y = x ^ (1 << bit);
+            let mut table = [cegridom::Run::default()];
+            assert_eq!(cegridom::runs_into(&[x, y, x, y], &mut table), Ok(1));
+            assert_eq!(
+                table[0].root,
+                if x < y { 1 } else { 2 },
+                "{x:#06x} {y:#06x}"
+            );
+            made += 1;
+        }
+    }
+    let mut checker = Checker::default();
+    for alphabet in PAIRS_OF_CODES {
+        every_word(2, 10, |w| rooted(&mut checker, &lettered(w, &alphabet)));
+    }
+    for alphabet in TRIPLES_OF_CODES {
+        every_word(3, 7, |w| rooted(&mut checker, &lettered(w, &alphabet)));
+    }
+    // Long units, from many starts.
+    let mut numbers = Numbers(1_597_334_677);
+    for (length, starts) in [(20, 20), (233, 10), (1000, 3), (LIMIT / 2, 1)] {
+        let units = [
+            numbers.word(length, 2),
+            numbers.word(length, 256),
+            last_differs(length),
+            fibonacci(length),
+            thue_morse(length),
+        ];
+        for unit in &units {
+            for spelling in SPELLINGS {
+                for _ in 0..starts {
+                    let start = numbers.below(length);
+                    let symbols = (2 * length + numbers.below(length)).min(LIMIT);
+                    let turning = unit.iter().cycle().skip(start).take(symbols);
+                    let bytes: Vec<u8> = turning.copied().collect();
+                    rooted(&mut checker, &spelt(&bytes, spelling));
+                }
+            }
+        }
+    }
+    println!("roots by codes: {} comparisons", made + checker.made);
+}
+
+/// The page of every code, 2,048 of them a word, byte for byte.
+#[test]
+fn pages_of_every_code() {
+    let mut made = 0u64;
+    let ends: Vec<u32> = (1..=LIMIT as u32 / 2).map(|k| 2 * k).collect();
+    for codes in (0..=u16::MAX).collect::<Vec<u16>>().chunks(LIMIT / 2) {
+        let word: Vec<u16> = codes.iter().flat_map(|&code| [code, code]).collect();
+        let page = cegridom::write_page(&word, Edition::One, &ends).unwrap();
+        let lines = page.chunks(61);
+        assert_eq!(lines.len(), codes.len());
+        for (k, (line, code)) in lines.zip(codes).enumerate() {
+            let (number, first, end) = (k + 1, 2 * k + 1, 2 * k + 2);
+            let expected =
+                format!("{number:>6}{first:>6}{end:>6}     1     2     0{number:>6}{code:04x}              \n");
+            assert_eq!(line, expected.as_bytes());
+            made += 1;
+        }
+    }
+    println!("pages of every code: {made} comparisons");
+}
+
+/// Pages of splits that are no best ones, with units of up to four symbols and of more.
+#[test]
+fn pages_of_codes() {
+    let mut checker = Checker::default();
+    let mut numbers = Numbers(362_436_069);
+    for n in [12, 40, 99, 100, 500, 1000, LIMIT] {
+        for longest in [1, 3, 4, 5, 12, n / 3] {
+            for symbols in [2, 17, 256] {
+                for edition in EDITIONS {
+                    let turns = reference::turns(edition).unwrap();
+                    let (w, ends) = numbers.split(n, turns, longest, symbols);
+                    let spelling = SPELLINGS[numbers.below(SPELLINGS.len())];
+                    let w = spelt(&w, spelling);
+                    page_and_near(&mut checker, &mut numbers, &w, edition, &ends);
+                }
+            }
+        }
+    }
+    checker.report("pages of codes");
+}
+
+/// Words of more codes than bytes have: all different, as a unit that memory holds or does not, and
+/// twice over.
+#[test]
+fn words_of_many_codes() {
+    let mut checker = Checker::default();
+    let mut numbers = Numbers(4_294_967_291);
+    // Different codes, in no order, of which each low byte stands 16 times.
+    let codes: Vec<u16> = (0..LIMIT as u32).map(|i| (40_503 * i) as u16).collect();
+    for unit in [300, 1000, LIMIT / 2, LIMIT] {
+        let w = &codes[..unit];
+        assert_eq!(cegridom::runs(w), Ok(vec![]));
+        assert_eq!(
+            cegridom::best_split(w, Edition::One, Choice::Most),
+            Err(Refusal::NoSplit)
+        );
+        long_word(&mut checker, &mut numbers, w);
+    }
+    for half in [300, 1000, LIMIT / 2] {
+        let w = codes[..half].repeat(2);
+        let (n, least) = (w.len() as u32, codes[..half].iter().min());
+        let root = codes.iter().position(|code| Some(code) == least).unwrap() as u32 + 1;
+        let run = cegridom::Run {
+            first: 1,
+            last: n,
+            unit: half as u32,
+            root,
+        };
+        assert_eq!(cegridom::runs(&w), Ok(vec![run]));
+        assert_eq!(cegridom::judge_squares(&w, &[n]), Ok(1));
+        for choice in [Choice::Fewest, Choice::Most] {
+            assert_eq!(cegridom::best_squares(&w, choice), Ok(vec![n]));
+            // A square, but no block: memory does not hold its unit.
+            let split = cegridom::best_split(&w, Edition::One, choice);
+            assert_eq!(split, Err(Refusal::NoSplit));
+        }
+        long_word(&mut checker, &mut numbers, &w);
+        long_squares(&mut checker, &mut numbers, &w, &[n]);
+    }
+    // A unit of 256 codes that have one low byte.
+    let unit: Vec<u16> = (0..=255).rev().map(|high| 256 * high + 7).collect();
+    let w = unit.repeat(LIMIT / 256);
+    let split = cegridom::best_split(&w, Edition::One, Choice::Fewest);
+    assert_eq!(split, Ok(vec![LIMIT as u32]));
+    long_word(&mut checker, &mut numbers, &w);
+    long_squares(&mut checker, &mut numbers, &w, &[]);
+    checker.report("words of many codes");
 }
 
 /// The same word one symbol too long for every call: 1 comes before anything else.
@@ -2574,7 +3077,7 @@ fn as_which(values: &[u32]) -> Which {
 }
 
 /// The sizes of the best splits of a word's leading parts, `None` for none, or refusal 1.
-fn sizes_of(w: &[u8], sizes: &[u32]) -> Result<Vec<Option<u32>>, (u32, u32)> {
+fn sizes_of<S>(w: &[S], sizes: &[u32]) -> Result<Vec<Option<u32>>, (u32, u32)> {
     let known = sizes.iter().map(|&s| (s != reference::NONE).then_some(s));
     match w.len() {
         0..=LIMIT => Ok(known.collect()),
@@ -2609,7 +3112,7 @@ impl Wrappers {
         self.made += 1;
     }
 
-    fn part(&mut self, w: &[u8], edition: Edition, first: u32, last: u32) {
+    fn part<S: Kind>(&mut self, w: &[S], edition: Edition, first: u32, last: u32) {
         let call = |places| reference::part_call(w, edition.number(), first, last, places);
         let (outcome, units) = call(MANY);
         let got = cegridom::part(w, edition, first, last);
@@ -2625,7 +3128,7 @@ impl Wrappers {
         }
     }
 
-    fn runs(&mut self, known: &Known) {
+    fn runs<S: Kind>(&mut self, known: &Known<S>) {
         let w = known.word;
         let (outcome, flat) = reference::runs_call(w, &known.runs, MANY);
         self.agree(cegridom::runs(w), said(outcome, |_| as_runs(&flat)));
@@ -2637,7 +3140,7 @@ impl Wrappers {
         }
     }
 
-    fn nodes(&mut self, known: &Known, edition: Edition, position: u32) {
+    fn nodes<S: Kind>(&mut self, known: &Known<S>, edition: Edition, position: u32) {
         let w = known.word;
         let call =
             |places| reference::nodes_call(w, edition.number(), &known.runs, position, places);
@@ -2654,7 +3157,12 @@ impl Wrappers {
     }
 
     /// Gives the ends of the best split; none where there is none.
-    fn best_split(&mut self, known: &Known, edition: Edition, choice: Choice) -> Vec<u32> {
+    fn best_split<S: Kind>(
+        &mut self,
+        known: &Known<S>,
+        edition: Edition,
+        choice: Choice,
+    ) -> Vec<u32> {
         let w = known.word;
         let (e, c) = (edition.number(), choice.number());
         let best = known.best(e, c);
@@ -2681,7 +3189,7 @@ impl Wrappers {
         ends
     }
 
-    fn best_squares(&mut self, known: &Squared, choice: Choice) {
+    fn best_squares<S: Kind>(&mut self, known: &Squared<S>, choice: Choice) {
         let (w, best) = (known.word, known.best(choice.number()));
         let call = |places, work_places| {
             reference::best_squares_call(w, choice.number(), best, places, work_places)
@@ -2708,7 +3216,7 @@ impl Wrappers {
         self.judge_squares(w, &ends);
     }
 
-    fn judge_squares(&mut self, w: &[u8], ends: &[u32]) {
+    fn judge_squares<S: Kind>(&mut self, w: &[S], ends: &[u32]) {
         let outcome = reference::judge_squares_call(w, ends);
         self.agree(cegridom::judge_squares(w, ends), said(outcome, only));
     }
@@ -2716,7 +3224,7 @@ impl Wrappers {
     /// What the calls on squares promise of one another and of those on blocks, by the library's own
     /// answers: a square is a block of edition 1, where memory holds its half, and a word twice over is
     /// a square.
-    fn square_promises(&mut self, w: &[u8]) {
+    fn square_promises<S: Kind>(&mut self, w: &[S]) {
         assert!(w.len() <= 2 * UNIT_MEMORY);
         let blocks = |choice| cegridom::best_split(w, Edition::One, choice).map(|ends| ends.len());
         let [fewest, most] = [Choice::Fewest, Choice::Most].map(|c| cegridom::best_squares(w, c));
@@ -2741,8 +3249,8 @@ impl Wrappers {
     }
 
     /// A part of two words is the one expected, by which word and how long: of the caller's own
-    /// bytes, not only equal to them.
-    fn lies_in(&mut self, words: [&[u8]; 2], part: &[u8], expected: Outcome) {
+    /// symbols, not only equal to them.
+    fn lies_in<S: Kind>(&mut self, words: [&[S]; 2], part: &[S], expected: Outcome) {
         let Accepted(values) = expected else {
             panic!("the call refuses nothing");
         };
@@ -2754,7 +3262,7 @@ impl Wrappers {
         self.made += 1;
     }
 
-    fn two(&mut self, a: &Known, b: &Known, edition: Edition) {
+    fn two<S: Kind>(&mut self, a: &Known<S>, b: &Known<S>, edition: Edition) {
         let number = edition.number();
         let (words, fewest) = pair(a, b, number);
         let [a, b] = words;
@@ -2781,7 +3289,7 @@ impl Wrappers {
 
     /// What the calls on two words promise of one another and of best split, by the library's own
     /// answers.
-    fn promises(&mut self, a: &[u8], b: &[u8], edition: Edition) {
+    fn promises<S: Kind>(&mut self, a: &[S], b: &[S], edition: Edition) {
         let [first, second] = [a, b].map(|w| cegridom::best_split(w, edition, Choice::Fewest));
         let size = |ends: &Result<Vec<u32>, Refusal>| ends.as_ref().map(Vec::len).ok();
         let tie = size(&first) == size(&second);
@@ -2810,7 +3318,12 @@ impl Wrappers {
     }
 
     /// Gives the run number of each block; none where the ends are not those of a split.
-    fn path_of_split(&mut self, known: &Known, edition: Edition, ends: &[u32]) -> Vec<u32> {
+    fn path_of_split<S: Kind>(
+        &mut self,
+        known: &Known<S>,
+        edition: Edition,
+        ends: &[u32],
+    ) -> Vec<u32> {
         let w = known.word;
         let call = |places| reference::path_call(w, edition.number(), &known.runs, ends, places);
         let (outcome, numbers) = call(MANY);
@@ -2826,7 +3339,7 @@ impl Wrappers {
         numbers
     }
 
-    fn write_page(&mut self, known: &Known, edition: Edition, ends: &[u32]) {
+    fn write_page<S: Kind>(&mut self, known: &Known<S>, edition: Edition, ends: &[u32]) {
         let w = known.word;
         let call = |room| reference::page_call(w, edition.number(), &known.runs, ends, room);
         let (outcome, page) = call(MANY);
@@ -2842,7 +3355,7 @@ impl Wrappers {
     }
 
     /// Runs, and nodes at some positions, in tables for the most runs: no table is too short.
-    fn most_runs(&mut self, known: &Known, positions: &[u32]) {
+    fn most_runs<S: Kind>(&mut self, known: &Known<S>, positions: &[u32]) {
         let (w, most) = (known.word, cegridom::most_runs(known.word.len()));
         let mut lent = vec![cegridom::Run::default(); most];
         let (outcome, flat) = reference::runs_call(w, &known.runs, MANY);
@@ -2862,7 +3375,7 @@ impl Wrappers {
     }
 
     /// The best splits and their paths, in tables for the most ends: no table is too short.
-    fn most_ends(&mut self, known: &Known, squared: &Squared) {
+    fn most_ends<S: Kind>(&mut self, known: &Known<S>, squared: &Squared<S>) {
         let (w, n) = (known.word, known.word.len());
         let most = cegridom::most_ends(n);
         let (mut ends, mut work) = (vec![GUARD; most], vec![GUARD; cegridom::work_places(n)]);
@@ -2892,7 +3405,7 @@ impl Wrappers {
     }
 
     /// A split has no more ends than the most, and its path no more numbers: 7 never comes.
-    fn most_blocks(&mut self, w: &[u8], edition: Edition, ends: &[u32]) {
+    fn most_blocks<S: Kind>(&mut self, w: &[S], edition: Edition, ends: &[u32]) {
         let most = cegridom::most_ends(w.len());
         assert!(ends.len() <= most, "{w:?} {ends:?}");
         let mut lent = vec![GUARD; most];
@@ -2901,7 +3414,13 @@ impl Wrappers {
         self.agree(got, said(outcome, only));
     }
 
-    fn judges(&mut self, known: &Known, edition: Edition, ends: &[u32], numbers: &[u32]) {
+    fn judges<S: Kind>(
+        &mut self,
+        known: &Known<S>,
+        edition: Edition,
+        ends: &[u32],
+        numbers: &[u32],
+    ) {
         let (w, number) = (known.word, edition.number());
         let outcome = reference::judge_split_call(w, number, ends);
         self.agree(cegridom::judge_split(w, edition, ends), said(outcome, only));
@@ -2939,6 +3458,15 @@ impl Wrappers {
     }
 }
 
+/// Words of bytes, the same numbers as 16-bit symbols, and codes of which both bytes count.
+fn in_both_kinds(words: &[Vec<u8>], mut bytes: impl FnMut(&[u8]), mut codes: impl FnMut(&[u16])) {
+    for (turn, w) in words.iter().enumerate() {
+        bytes(w);
+        codes(&wide(w));
+        codes(&spelt(w, SPELLINGS[turn % SPELLINGS.len()]));
+    }
+}
+
 /// The functions of the crate against the same answers.
 #[test]
 fn wrappers() {
@@ -2947,38 +3475,44 @@ fn wrappers() {
     words.push(vec![b'a'; 4097]);
     words.extend([256, 257].map(|unit| one_and_zeros(unit).repeat(2)));
     every_word(2, 7, |w| words.push(w.to_vec()));
-    let mut wrappers = Wrappers::default();
-    for w in &words {
-        let known = Known::of(w);
-        let n = w.len() as u32;
-        wrappers.runs(&known);
-        for edition in [Edition::One, Edition::Two] {
-            let inside = [(1, n), (2, n), (n, n), (1, n / 2), (n / 3 + 1, n / 2)];
-            let outside = [(0, n), (2, n + 1), (n, 1), (1, u32::MAX), (u32::MAX, 1)];
-            for (first, last) in inside.into_iter().chain(outside) {
-                wrappers.part(w, edition, first, last);
+    let (mut of_bytes, mut of_codes) = (Wrappers::default(), Wrappers::default());
+    in_both_kinds(
+        &words,
+        |w| wrapped(&mut of_bytes, w),
+        |w| wrapped(&mut of_codes, w),
+    );
+    let made = of_bytes.made + of_codes.made;
+    println!("the wrappers: {made} comparisons");
+}
+
+fn wrapped<S: Kind>(wrappers: &mut Wrappers, w: &[S]) {
+    let known = Known::of(w);
+    let n = w.len() as u32;
+    wrappers.runs(&known);
+    for edition in [Edition::One, Edition::Two] {
+        let inside = [(1, n), (2, n), (n, n), (1, n / 2), (n / 3 + 1, n / 2)];
+        let outside = [(0, n), (2, n + 1), (n, 1), (1, u32::MAX), (u32::MAX, 1)];
+        for (first, last) in inside.into_iter().chain(outside) {
+            wrappers.part(w, edition, first, last);
+        }
+        for position in [0, 1, n / 2, n, n + 1] {
+            wrappers.nodes(&known, edition, position);
+        }
+        for choice in [Choice::Fewest, Choice::Most] {
+            let ends = wrappers.best_split(&known, edition, choice);
+            let numbers = wrappers.path_of_split(&known, edition, &ends);
+            for judging in [Edition::One, Edition::Two] {
+                wrappers.judges(&known, judging, &ends, &numbers);
+                wrappers.write_page(&known, judging, &ends);
             }
-            for position in [0, 1, n / 2, n, n + 1] {
-                wrappers.nodes(&known, edition, position);
-            }
-            for choice in [Choice::Fewest, Choice::Most] {
-                let ends = wrappers.best_split(&known, edition, choice);
-                let numbers = wrappers.path_of_split(&known, edition, &ends);
-                for judging in [Edition::One, Edition::Two] {
-                    wrappers.judges(&known, judging, &ends, &numbers);
-                    wrappers.write_page(&known, judging, &ends);
-                }
-                wrappers.plans(w.len(), &ends);
-            }
+            wrappers.plans(w.len(), &ends);
         }
     }
-    println!("the wrappers: {} comparisons", wrappers.made);
 }
 
 /// The functions of the crate on squares.
 #[test]
 fn wrappers_on_squares() {
-    let mut wrappers = Wrappers::default();
     let mut numbers = Numbers(1_442_695_040);
     let mut words = structured(200);
     for longest in [1, 5, 30] {
@@ -2987,37 +3521,57 @@ fn wrappers_on_squares() {
         }
     }
     every_word(2, 10, |w| words.push(w.to_vec()));
-    for w in &words {
-        wrappers.square_promises(w);
-    }
+    let (mut of_bytes, mut of_codes) = (Wrappers::default(), Wrappers::default());
+    in_both_kinds(
+        &words,
+        |w| of_bytes.square_promises(w),
+        |w| of_codes.square_promises(w),
+    );
     words.extend([LIMIT - 1, LIMIT, LIMIT + 1].map(|n| vec![b'a'; n]));
-    for w in &words {
-        let known = Squared::of(w);
-        let n = w.len() as u32;
-        for choice in [Choice::Fewest, Choice::Most] {
-            wrappers.best_squares(&known, choice);
-        }
-        for ends in [&[][..], &[0], &[n], &[2, n], &[n, n], &[n + 1]] {
-            wrappers.judge_squares(w, ends);
-        }
+    in_both_kinds(
+        &words,
+        |w| wrapped_squares(&mut of_bytes, w),
+        |w| wrapped_squares(&mut of_codes, w),
+    );
+    let made = of_bytes.made + of_codes.made;
+    println!("the wrappers on squares: {made} comparisons");
+}
+
+fn wrapped_squares<S: Kind>(wrappers: &mut Wrappers, w: &[S]) {
+    let known = Squared::of(w);
+    let n = w.len() as u32;
+    for choice in [Choice::Fewest, Choice::Most] {
+        wrappers.best_squares(&known, choice);
     }
-    println!("the wrappers on squares: {} comparisons", wrappers.made);
+    for ends in [&[][..], &[0], &[n], &[2, n], &[n, n], &[n + 1]] {
+        wrappers.judge_squares(w, ends);
+    }
 }
 
 /// The functions of the crate on two words.
 #[test]
 fn wrappers_on_two_words() {
     let mut wrappers = Wrappers::default();
-    let mut both = |a: &Known, b: &Known| {
+    let mut words = structured(60);
+    words.push([0x80, 0xff, 0xff].repeat(5));
+    every_word(2, 6, |w| words.push(w.to_vec()));
+    wrapped_pairs(&mut wrappers, &words);
+    words.truncate(50);
+    for spelling in [|symbol: u8| symbol.into(), SPELLINGS[0]] {
+        let words: Vec<Vec<u16>> = words.iter().map(|w| spelt(w, spelling)).collect();
+        wrapped_pairs(&mut wrappers, &words);
+    }
+    println!("the wrappers on two words: {} comparisons", wrappers.made);
+}
+
+fn wrapped_pairs<S: Kind>(wrappers: &mut Wrappers, words: &[Vec<S>]) {
+    let mut both = |a: &Known<S>, b: &Known<S>| {
         for edition in [Edition::One, Edition::Two] {
             wrappers.two(a, b, edition);
             wrappers.promises(a.word, b.word, edition);
         }
     };
-    let mut words = structured(60);
-    words.push([0x80, 0xff, 0xff].repeat(5));
-    every_word(2, 6, |w| words.push(w.to_vec()));
-    let known = all_known(&words);
+    let known = all_known(words);
     for a in &known {
         for b in &known {
             both(a, b);
@@ -3032,14 +3586,14 @@ fn wrappers_on_two_words() {
             both(&Known::of(back), &Known::of(w));
         }
     }
-    let words = [LIMIT, LIMIT + 1, 2, 1, 0].map(|n| vec![b'a'; n]);
+    let symbol = words[0][0];
+    let words = [LIMIT, LIMIT + 1, 2, 1, 0].map(|n| vec![symbol; n]);
     let known = all_known(&words);
     for a in &known {
         for b in &known {
             both(a, b);
         }
     }
-    println!("the wrappers on two words: {} comparisons", wrappers.made);
 }
 
 /// A word with many runs for its length: of a series in which each begins with the one before it

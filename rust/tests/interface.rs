@@ -1,9 +1,9 @@
 //! What the types of the crate promise: refusals and their numbers, lengths that do not fit, runs with
 //! their roots, the squares of the documents, a page byte for byte, the first block as a part of the
-//! caller's bytes, what the units of a part, runs, nodes, squares, a page and the calls on two words
-//! take of memory, and the example `fewest`.
+//! caller's symbols, words of 16-bit symbols, what the units of a part, runs, nodes, squares, a page
+//! and the calls on two words take of memory, and the example `fewest`.
 
-use cegridom::{raw, Choice, Edition, Refusal, Run, Which, LIMIT};
+use cegridom::{raw, Choice, Edition, Refusal, Run, Symbol, Which, LIMIT};
 use std::alloc::{GlobalAlloc, Layout, System};
 use std::cell::Cell;
 use std::error::Error;
@@ -114,7 +114,7 @@ fn the_archive_has_the_version_of_the_crate() {
     assert_eq!(minor, number(env!("CARGO_PKG_VERSION_MINOR")));
 }
 
-fn runs_are(word: &[u8], expected: &[[u32; 4]]) {
+fn runs_are<S: Symbol>(word: &[S], expected: &[[u32; 4]]) {
     let run = |&[first, last, unit, root]: &[u32; 4]| Run {
         first,
         last,
@@ -244,6 +244,180 @@ fn the_first_block_is_a_part_of_the_callers_bytes() {
         Err(Refusal::NoSplit)
     );
     assert!(cegridom::first_block(b"ab", b"ba", edition).is_empty());
+}
+
+// ---- words of 16-bit symbols
+
+/// The words of the documents, in codes of which the low bytes alone are equal: a, b and c.
+fn in_codes(word: &[u8]) -> Vec<u16> {
+    let code = |letter| 0x0161 + 0x7f00 * u16::from(letter - b'a');
+    word.iter().map(|&letter| code(letter)).collect()
+}
+
+#[test]
+fn words_of_the_documents_in_codes() {
+    assert_eq!(in_codes(b"abc"), [0x0161, 0x8061, 0xff61]);
+    let split = |word, edition, choice| cegridom::best_split(&in_codes(word), edition, choice);
+    let one = |word| [Choice::Fewest, Choice::Most].map(|c| split(word, Edition::One, c));
+    let none = [Err(Refusal::NoSplit), Err(Refusal::NoSplit)];
+    assert_eq!(one(b""), [Ok(vec![]), Ok(vec![])]);
+    for word in [&b"a"[..], b"ab", b"baa"] {
+        assert_eq!(one(word), none);
+    }
+    assert_eq!(one(b"aa"), [Ok(vec![2]), Ok(vec![2])]);
+    assert_eq!(one(b"aaaa"), [Ok(vec![4]), Ok(vec![2, 4])]);
+    assert_eq!(one(b"aaaaa"), [Ok(vec![5]), Ok(vec![2, 5])]);
+    assert_eq!(one(b"ababa"), [Ok(vec![5]), Ok(vec![5])]);
+    assert_eq!(one(b"aabb"), [Ok(vec![2, 4]), Ok(vec![2, 4])]);
+    assert_eq!(one(b"aabaabaa"), [Ok(vec![8]), Ok(vec![2, 8])]);
+    assert_eq!(
+        one(b"abaabaababaabaabababa"),
+        [Ok(vec![16, 21]), Ok(vec![6, 10, 16, 21])]
+    );
+    assert_eq!(
+        one(b"aabaabaacbbcbbcbb"),
+        [Ok(vec![8, 17]), Ok(vec![2, 8, 15, 17])]
+    );
+    let most = split(b"aaaaaa", Edition::Two, Choice::Most);
+    assert_eq!(most, Ok(vec![3, 6]));
+    assert_eq!(
+        split(b"aabaabaa", Edition::Two, Choice::Most),
+        Err(Refusal::NoSplit)
+    );
+    let word = in_codes(b"aabaabaa");
+    let judged = |ends: &[u32]| cegridom::judge_split(&word, Edition::One, ends);
+    assert_eq!(judged(&[3, 8]), Err(Refusal::NotBlock { index: 1 }));
+    assert_eq!(judged(&[2, 2, 8]), Err(Refusal::BadEnd { index: 2 }));
+    assert_eq!(judged(&[2, 9]), Err(Refusal::BadEnd { index: 2 }));
+    assert_eq!(judged(&[]), Err(Refusal::Unfinished));
+    assert_eq!(judged(&[2, 8]), Ok(2));
+    assert_eq!(cegridom::nodes(&word, Edition::One, 8), Ok(vec![2, 4]));
+    assert_eq!(
+        cegridom::units(&word, 1, 8),
+        Ok(vec![1, 1, 3, 3, 3, 3, 3, 3])
+    );
+    let path = cegridom::path_of_split(&word, Edition::One, &[2, 8]);
+    assert_eq!(path, Ok(vec![1, 2]));
+    let squares = in_codes(b"abaababaabbbaabbbb");
+    assert_eq!(
+        [Choice::Fewest, Choice::Most].map(|c| cegridom::best_squares(&squares, c)),
+        [Ok(vec![6, 16, 18]), Ok(vec![10, 12, 14, 16, 18])]
+    );
+    let equal = [0xffffu16; LIMIT + 1];
+    let whole = cegridom::best_split(&equal[1..], Edition::One, Choice::Fewest);
+    assert_eq!(whole, Ok(vec![LIMIT as u32]));
+    let over = cegridom::best_split(&equal, Edition::One, Choice::Fewest);
+    assert_eq!(over, Err(Refusal::TooLong));
+}
+
+#[test]
+fn runs_of_codes_have_roots() {
+    let rows = [[1, 2, 1, 1], [1, 8, 3, 1], [4, 5, 1, 4], [7, 8, 1, 7]];
+    runs_are(&in_codes(b"aabaabaa"), &rows);
+    let rows = [[1, 4, 2, 1], [2, 7, 3, 3], [4, 5, 1, 4], [5, 8, 2, 6]];
+    runs_are(&in_codes(b"ababbaba"), &rows);
+    runs_are(&in_codes(b"cabcabca"), &[[1, 8, 3, 2]]);
+    // The high byte decides, against the low one; codes from 0x8000 on come after the others.
+    runs_are(&[0x0200u16, 0x01ff, 0x0200, 0x01ff], &[[1, 4, 2, 2]]);
+    runs_are(&[256u16, 255, 256, 255], &[[1, 4, 2, 2]]);
+    runs_are(&[0x8000u16, 0x7fff, 0x8000, 0x7fff], &[[1, 4, 2, 2]]);
+    runs_are(&[65_535u16, 0, 65_535, 0, 65_535], &[[1, 5, 2, 2]]);
+    // Codes that only the high byte tells apart are no run.
+    runs_are(&[1u16, 257], &[]);
+    runs_are(&[1u16, 257, 1, 257], &[[1, 4, 2, 1]]);
+    runs_are(&[300u16; LIMIT], &[[1, LIMIT as u32, 1, 1]]);
+}
+
+#[test]
+fn a_page_of_codes_shows_four() {
+    let page = |word: &[u16], ends: &[u32]| cegridom::write_page(word, Edition::One, ends);
+    let line = |front: &str, shown: &str| format!("{front}{shown:<18}\n").into_bytes();
+    for (unit, shown) in [
+        (&[0x000au16][..], "000a"),
+        (&[0xffff, 0], "ffff0000"),
+        (&[255, 256, 257], "00ff01000101"),
+        (&[0xabcd, 1, 2, 3], "abcd000100020003"),
+        (&[0xabcd, 1, 2, 3, 4], "abcd000100020003"),
+        (&[9, 8, 7, 6, 5, 4, 3, 2, 1, 0], "0009000800070006"),
+    ] {
+        let word = unit.repeat(2);
+        let (n, p) = (word.len(), unit.len());
+        let front = format!("     1     1{n:>6}{p:>6}     2     0     1");
+        assert_eq!(page(&word, &[n as u32]), Ok(line(&front, shown)));
+    }
+    let bytes = b"abababzz";
+    let word = bytes.map(u16::from);
+    let lines = [
+        &b"     1     1     6     2     3     0     100610062          \n"[..],
+        b"     2     7     8     1     2     0     2007a              \n",
+    ];
+    assert_eq!(page(&word, &[6, 8]), Ok(lines.concat()));
+    // The page of the same numbers as bytes differs in the last column alone.
+    let of_bytes = cegridom::write_page(bytes, Edition::One, &[6, 8]).unwrap();
+    for (line, of_bytes) in lines.iter().zip(of_bytes.chunks(61)) {
+        assert_eq!(line[..42], of_bytes[..42]);
+        assert_ne!(line[42..], of_bytes[42..]);
+    }
+    let mut out = [b'.'; 62];
+    let refused = cegridom::write_page_into(&word, Edition::One, &[6, 8], &mut out);
+    assert_eq!((refused, out), (Err(Refusal::TooFewPlaces), [b'.'; 62]));
+}
+
+#[test]
+fn the_first_block_is_a_part_of_the_callers_codes() {
+    let codes = in_codes(b"abaabaababaabaabababaaabbaabaabaa");
+    let [long, two, one] = [&codes[..21], &codes[21..25], &codes[25..]];
+    let edition = Edition::One;
+    let block = {
+        let mut work = vec![9; cegridom::work_places(21)];
+        cegridom::first_block_into(long, two, edition, &mut work)
+    };
+    assert_eq!(block.as_ptr_range(), codes[..16].as_ptr_range());
+    let range = |a, b| cegridom::first_block(a, b, edition).as_ptr_range();
+    assert_eq!(range(two, long), codes[21..23].as_ptr_range());
+    assert_eq!(range(two, one), codes[25..].as_ptr_range());
+    assert_eq!(range(one, two), codes[25..].as_ptr_range());
+    assert_eq!(cegridom::which_first(two, one, edition), Ok(Which::Second));
+    assert_eq!(cegridom::which_first(two, long, edition), Ok(Which::First));
+    // Of two equal words that overlap, the first; and of one word given twice.
+    let equal = [0xffffu16; 5];
+    assert_eq!(range(&equal[1..], &equal[..4]), equal[1..].as_ptr_range());
+    assert_eq!(range(&equal, &equal), equal.as_ptr_range());
+    let empty = &codes[25..25];
+    assert_eq!(range(one, empty), empty.as_ptr_range());
+    // Only the high bytes differ, so neither has a split.
+    let (a, b) = ([7u16, 263], [263u16, 7]);
+    let refused = cegridom::which_first(&a, &b, edition);
+    assert_eq!(refused, Err(Refusal::NoSplit));
+    assert!(cegridom::first_block(&a, &b, edition).is_empty());
+}
+
+/// What each function that allocates takes for a word, or for it twice, in bytes.
+fn allocations<S: Symbol>(word: &[S]) -> [usize; 12] {
+    let (one, most, n) = (Edition::One, Choice::Most, word.len() as u32);
+    [
+        bytes_allocated(|| cegridom::part(word, one, 1, n).is_ok()).0,
+        bytes_allocated(|| cegridom::units(word, 1, n).is_ok()).0,
+        bytes_allocated(|| cegridom::runs(word).is_ok()).0,
+        bytes_allocated(|| cegridom::nodes(word, one, n).is_ok()).0,
+        bytes_allocated(|| cegridom::best_split(word, one, most).is_ok()).0,
+        bytes_allocated(|| cegridom::best_sizes(word, one, most).is_ok()).0,
+        bytes_allocated(|| cegridom::best_squares(word, most).is_ok()).0,
+        bytes_allocated(|| cegridom::best_squares_sizes(word, most).is_ok()).0,
+        bytes_allocated(|| cegridom::path_of_split(word, one, &[n]).is_ok()).0,
+        bytes_allocated(|| cegridom::write_page(word, one, &[n]).is_ok()).0,
+        bytes_allocated(|| cegridom::which_first(word, word, one).is_ok()).0,
+        bytes_allocated(|| cegridom::first_block(word, word, one).len()).0,
+    ]
+}
+
+#[test]
+fn codes_allocate_as_bytes_do() {
+    let (longest, too_long) = ([b'a'; LIMIT], vec![b'a'; 1_000_000]);
+    for word in [&b"aabaabaa"[..], b"ab", b"", &longest, &too_long] {
+        let codes: Vec<u16> = word.iter().map(|&symbol| symbol.into()).collect();
+        assert_eq!(allocations(&codes), allocations(word));
+    }
 }
 
 // ---- memory

@@ -1,7 +1,8 @@
 /*
  * Calls every exported function through the header and compares what it gives: the result, the
- * index, the values, and the tables with the places beside them. Prints how many checks passed;
- * the exit status is 1 if any failed.
+ * index, the values, and the tables with the places beside them. The tests on words are made on
+ * bytes, and again on 16-bit codes that are equal and ordered as the bytes are: all but the page is
+ * the same. Prints how many checks passed; the exit status is 1 if any failed.
  */
 #include <cegridom.h>
 
@@ -67,6 +68,161 @@ static int begins(const uint32_t *places, const uint32_t *numbers, size_t count)
 
 /* The longest unit that a block has. */
 #define UNIT_MEMORY 256
+
+/* What words are made of: bytes, or 16-bit codes for them, which keep their order. */
+enum {
+    BYTES,
+    SAME_NUMBERS,
+    /* the high byte alone tells them apart */
+    HIGH_BYTE,
+    /* on both sides of 0x8000 */
+    ABOUT_SIGN,
+    SPELLINGS
+};
+
+static int spelling = BYTES;
+
+static uint16_t code_of(uint8_t symbol) {
+    switch (spelling) {
+    case HIGH_BYTE:
+        return (uint16_t)(256 * symbol + 97);
+    case ABOUT_SIGN:
+        return (uint16_t)(0x7fa0 + symbol);
+    default:
+        return symbol;
+    }
+}
+
+static uint16_t codes[CEGRIDOM_LIMIT + 1], second_codes[CEGRIDOM_LIMIT + 1];
+
+static const uint16_t *coded(const uint8_t *word, size_t n, uint16_t *to) {
+    for (size_t i = 0; i < n; i++) {
+        to[i] = code_of(word[i]);
+    }
+    return word == NULL ? NULL : to;
+}
+
+/* The calls on words, by the form for what these are made of. */
+
+static uint32_t in_width_part(const uint8_t *word, size_t n, uint32_t edition, uint32_t first,
+                              uint32_t last, uint32_t *lent, size_t unit_places, uint32_t *unit,
+                              uint32_t *turns, uint32_t *rest, uint32_t *block, uint32_t *index) {
+    if (spelling == BYTES) {
+        return cegridom_part(word, n, edition, first, last, lent, unit_places, unit, turns, rest,
+                             block, index);
+    }
+    return cegridom_part_16(coded(word, n, codes), n, edition, first, last, lent, unit_places, unit,
+                            turns, rest, block, index);
+}
+
+static uint32_t in_width_runs(const uint8_t *word, size_t n, uint32_t *lent, size_t places,
+                              uint32_t *count, uint32_t *index) {
+    if (spelling == BYTES) {
+        return cegridom_runs(word, n, lent, places, count, index);
+    }
+    return cegridom_runs_16(coded(word, n, codes), n, lent, places, count, index);
+}
+
+static uint32_t in_width_nodes(const uint8_t *word, size_t n, uint32_t edition, uint32_t position,
+                               uint32_t *lent, size_t places, uint32_t *count, uint32_t *index) {
+    if (spelling == BYTES) {
+        return cegridom_nodes(word, n, edition, position, lent, places, count, index);
+    }
+    return cegridom_nodes_16(coded(word, n, codes), n, edition, position, lent, places, count,
+                             index);
+}
+
+static uint32_t in_width_best_split(const uint8_t *word, size_t n, uint32_t edition,
+                                    uint32_t choice, uint32_t *ends, size_t end_places,
+                                    uint32_t *lent_work, size_t work_places, uint32_t *size,
+                                    uint32_t *index) {
+    if (spelling == BYTES) {
+        return cegridom_best_split(word, n, edition, choice, ends, end_places, lent_work,
+                                   work_places, size, index);
+    }
+    return cegridom_best_split_16(coded(word, n, codes), n, edition, choice, ends, end_places,
+                                  lent_work, work_places, size, index);
+}
+
+static uint32_t in_width_judge_split(const uint8_t *word, size_t n, uint32_t edition,
+                                     const uint32_t *ends, size_t end_count, uint32_t *blocks,
+                                     uint32_t *index) {
+    if (spelling == BYTES) {
+        return cegridom_judge_split(word, n, edition, ends, end_count, blocks, index);
+    }
+    return cegridom_judge_split_16(coded(word, n, codes), n, edition, ends, end_count, blocks,
+                                   index);
+}
+
+static uint32_t in_width_path_of_split(const uint8_t *word, size_t n, uint32_t edition,
+                                       const uint32_t *ends, size_t end_count, uint32_t *lent,
+                                       size_t places, uint32_t *blocks, uint32_t *index) {
+    if (spelling == BYTES) {
+        return cegridom_path_of_split(word, n, edition, ends, end_count, lent, places, blocks,
+                                      index);
+    }
+    return cegridom_path_of_split_16(coded(word, n, codes), n, edition, ends, end_count, lent,
+                                     places, blocks, index);
+}
+
+static uint32_t in_width_judge_path(const uint8_t *word, size_t n, uint32_t edition,
+                                    const uint32_t *numbers, size_t number_count, uint32_t *blocks,
+                                    uint32_t *index) {
+    if (spelling == BYTES) {
+        return cegridom_judge_path(word, n, edition, numbers, number_count, blocks, index);
+    }
+    return cegridom_judge_path_16(coded(word, n, codes), n, edition, numbers, number_count, blocks,
+                                  index);
+}
+
+static uint32_t in_width_write_page(const uint8_t *word, size_t n, uint32_t edition,
+                                    const uint32_t *ends, size_t end_count, uint8_t *lent,
+                                    size_t room, uint32_t *bytes, uint32_t *index) {
+    if (spelling == BYTES) {
+        return cegridom_write_page(word, n, edition, ends, end_count, lent, room, bytes, index);
+    }
+    return cegridom_write_page_16(coded(word, n, codes), n, edition, ends, end_count, lent, room,
+                                  bytes, index);
+}
+
+static uint32_t in_width_which_first(const uint8_t *word, size_t n, const uint8_t *second, size_t m,
+                                     uint32_t edition, uint32_t *lent, size_t work_places,
+                                     uint32_t *which, uint32_t *index) {
+    if (spelling == BYTES) {
+        return cegridom_which_first(word, n, second, m, edition, lent, work_places, which, index);
+    }
+    return cegridom_which_first_16(coded(word, n, codes), n, coded(second, m, second_codes), m,
+                                   edition, lent, work_places, which, index);
+}
+
+static uint32_t in_width_first_block(const uint8_t *word, size_t n, const uint8_t *second, size_t m,
+                                     uint32_t edition, uint32_t *lent, size_t work_places,
+                                     uint32_t *which, uint32_t *length) {
+    if (spelling == BYTES) {
+        return cegridom_first_block(word, n, second, m, edition, lent, work_places, which, length);
+    }
+    return cegridom_first_block_16(coded(word, n, codes), n, coded(second, m, second_codes), m,
+                                   edition, lent, work_places, which, length);
+}
+
+static uint32_t in_width_best_squares(const uint8_t *word, size_t n, uint32_t choice,
+                                      uint32_t *ends, size_t end_places, uint32_t *lent_work,
+                                      size_t work_places, uint32_t *size, uint32_t *index) {
+    if (spelling == BYTES) {
+        return cegridom_best_squares(word, n, choice, ends, end_places, lent_work, work_places,
+                                     size, index);
+    }
+    return cegridom_best_squares_16(coded(word, n, codes), n, choice, ends, end_places, lent_work,
+                                    work_places, size, index);
+}
+
+static uint32_t in_width_judge_squares(const uint8_t *word, size_t n, const uint32_t *ends,
+                                       size_t end_count, uint32_t *blocks, uint32_t *index) {
+    if (spelling == BYTES) {
+        return cegridom_judge_squares(word, n, ends, end_count, blocks, index);
+    }
+    return cegridom_judge_squares_16(coded(word, n, codes), n, ends, end_count, blocks, index);
+}
 
 /* Numbers that are no edition. */
 static const uint32_t no_editions[] = {0, 3, 4294967295u};
@@ -137,7 +293,7 @@ static void part_accepted(const struct part_case *k, uint32_t edition, size_t pl
     size_t length = CEGRIDOM_UNIT_PLACES(k->first, k->last);
     fill(table, TABLE_PLACES);
     reset();
-    CHECK(cegridom_part((const uint8_t *)k->word, k->n, edition, k->first, k->last, units, places,
+    CHECK(in_width_part((const uint8_t *)k->word, k->n, edition, k->first, k->last, units, places,
                         &a, &b, &c, &d, &index_) == CEGRIDOM_ACCEPTED);
     CHECK(a == k->unit && b == k->turns && c == k->rest && d == k->block[edition - 1] &&
           index_ == 0);
@@ -149,7 +305,7 @@ static void part_refused(const uint8_t *word, size_t n, uint32_t edition, uint32
                          uint32_t last, uint32_t *lent, size_t places, uint32_t result) {
     fill(table, TABLE_PLACES);
     reset();
-    CHECK(cegridom_part(word, n, edition, first, last, lent, places, &a, &b, &c, &d, &index_) ==
+    CHECK(in_width_part(word, n, edition, first, last, lent, places, &a, &b, &c, &d, &index_) ==
           result);
     CHECK(a == 0 && b == 0 && c == 0 && d == 0 && index_ == 0 && untouched(table, TABLE_PLACES));
 }
@@ -204,7 +360,7 @@ static void test_part(void) {
 static void test_longest_part(void) {
     fill(table, TABLE_PLACES);
     reset();
-    CHECK(cegridom_part(longest, CEGRIDOM_LIMIT, 1, 1, CEGRIDOM_LIMIT, units, CEGRIDOM_LIMIT, &a,
+    CHECK(in_width_part(longest, CEGRIDOM_LIMIT, 1, 1, CEGRIDOM_LIMIT, units, CEGRIDOM_LIMIT, &a,
                         &b, &c, &d, &index_) == CEGRIDOM_ACCEPTED);
     CHECK(a == 1 && b == CEGRIDOM_LIMIT && c == 0 && d == 1 && index_ == 0);
     int ones = 1;
@@ -236,7 +392,7 @@ static void runs_asked(const uint8_t *word, size_t n, uint32_t *lent, size_t pla
                        uint32_t result, uint32_t count) {
     fill(table, TABLE_PLACES);
     reset();
-    CHECK(cegridom_runs(word, n, lent, places, &a, &index_) == result);
+    CHECK(in_width_runs(word, n, lent, places, &a, &index_) == result);
     CHECK(a == count && index_ == 0);
 }
 
@@ -370,7 +526,7 @@ static void wound_from_each(const uint8_t *unit, uint32_t length) {
         }
         fill(table, TABLE_PLACES);
         reset();
-        CHECK(cegridom_runs(word, 2 * length, records, TABLE_PLACES - 2, &a, &index_) == 0);
+        CHECK(in_width_runs(word, 2 * length, records, TABLE_PLACES - 2, &a, &index_) == 0);
         for (uint32_t i = 0; i < a; i++) {
             const uint32_t *row = records + CEGRIDOM_RUN_PLACES(i);
             found += row[0] == 1 && row[1] == 2 * length && row[2] == length && row[3] == root;
@@ -389,7 +545,7 @@ static void test_roots(void) {
             const uint8_t word[] = {(uint8_t)x, (uint8_t)y, (uint8_t)x, (uint8_t)y};
             if (x != y) {
                 fill(table, 5);
-                agree &= cegridom_runs(word, 4, table, 4, &a, &index_) == 0 && a == 1 &&
+                agree &= in_width_runs(word, 4, table, 4, &a, &index_) == 0 && a == 1 &&
                          BEGINS(table, 1, 4, 2, x < y ? 1 : 2);
             }
         }
@@ -437,13 +593,13 @@ static void noded(const char *word, uint32_t edition, uint32_t position, const u
     size_t n = strlen(word);
     fill(table, 4);
     reset();
-    CHECK(cegridom_nodes((const uint8_t *)word, n, edition, position, table, count, &a, &index_) ==
+    CHECK(in_width_nodes((const uint8_t *)word, n, edition, position, table, count, &a, &index_) ==
           CEGRIDOM_ACCEPTED);
     CHECK(a == count && index_ == 0 && begins(table, numbers, count));
     if (count > 0) {
         fill(table, 4);
         reset();
-        CHECK(cegridom_nodes((const uint8_t *)word, n, edition, position, table, count - 1, &a,
+        CHECK(in_width_nodes((const uint8_t *)word, n, edition, position, table, count - 1, &a,
                              &index_) == CEGRIDOM_TOO_FEW_PLACES);
         CHECK(a == 0 && index_ == 0 && untouched(table, 4));
     }
@@ -471,31 +627,31 @@ static void test_nodes(void) {
     NODED(BOTH, 2, 12, 2);
     NODED(BOTH, 2, 13, 2);
     reset();
-    CHECK(cegridom_nodes(WORD("aabaabaa"), 1, 1, NULL, 0, &a, &index_) == CEGRIDOM_ACCEPTED);
+    CHECK(in_width_nodes(WORD("aabaabaa"), 1, 1, NULL, 0, &a, &index_) == CEGRIDOM_ACCEPTED);
     CHECK(a == 0 && index_ == 0);
     fill(table, 4);
     for (uint32_t i = 0; i < 2; i++) {
         for (uint32_t edition = 1; edition <= 2; edition++) {
             reset();
-            CHECK(cegridom_nodes(WORD("aabaabaa"), edition, 9 * i, table, 0, &a, &index_) ==
+            CHECK(in_width_nodes(WORD("aabaabaa"), edition, 9 * i, table, 0, &a, &index_) ==
                   CEGRIDOM_BAD_POSITION);
             CHECK(a == 0 && index_ == 0 && untouched(table, 4));
         }
     }
     for (size_t i = 0; i < NO_EDITIONS; i++) {
         reset();
-        CHECK(cegridom_nodes(WORD("aabaabaa"), no_editions[i], 8, table, 4, &a, &index_) ==
+        CHECK(in_width_nodes(WORD("aabaabaa"), no_editions[i], 8, table, 4, &a, &index_) ==
               CEGRIDOM_BAD_EDITION);
         CHECK(a == 0 && index_ == 0 && untouched(table, 4));
         /* 12 comes before 6 and 7 */
         reset();
-        CHECK(cegridom_nodes(WORD("aabaabaa"), no_editions[i], 0, table, 0, &a, &index_) ==
+        CHECK(in_width_nodes(WORD("aabaabaa"), no_editions[i], 0, table, 0, &a, &index_) ==
               CEGRIDOM_BAD_EDITION);
         CHECK(a == 0 && index_ == 0 && untouched(table, 4));
     }
     for (uint32_t edition = 0; edition <= 3; edition++) {
         reset();
-        CHECK(cegridom_nodes(longest, CEGRIDOM_LIMIT + 1, edition, 0, NULL, 0, &a, &index_) ==
+        CHECK(in_width_nodes(longest, CEGRIDOM_LIMIT + 1, edition, 0, NULL, 0, &a, &index_) ==
               CEGRIDOM_TOO_LONG);
         CHECK(a == 0 && index_ == 0);
     }
@@ -554,7 +710,7 @@ static void test_best_split(void) {
             fill(table, 6);
             fill(work, needed + 1);
             reset();
-            uint32_t result = cegridom_best_split(word, n, k->edition, choice, table, 5, work,
+            uint32_t result = in_width_best_split(word, n, k->edition, choice, table, 5, work,
                                                   needed + 1, &a, &index_);
             if (size == CEGRIDOM_NONE) {
                 CHECK(result == CEGRIDOM_NO_SPLIT && a == 0 && index_ == 0);
@@ -574,13 +730,13 @@ static void test_best_split(void) {
                 fill(table, 6);
                 fill(work, needed);
                 reset();
-                CHECK(cegridom_best_split(word, n, k->edition, choice, table, size - 1, work,
+                CHECK(in_width_best_split(word, n, k->edition, choice, table, size - 1, work,
                                           needed, &a, &index_) == CEGRIDOM_TOO_FEW_PLACES);
                 CHECK(a == 0 && index_ == 0 && untouched(table, 6) && work[n] == size);
             }
             fill(work, needed);
             reset();
-            CHECK(cegridom_best_split(word, n, k->edition, choice, table, 5, work, needed - 1, &a,
+            CHECK(in_width_best_split(word, n, k->edition, choice, table, 5, work, needed - 1, &a,
                                       &index_) == CEGRIDOM_SHORT_TABLE);
             CHECK(a == 0 && index_ == 0 && untouched(work, needed));
             for (size_t e = 0; e < NO_EDITIONS; e++) {
@@ -589,7 +745,7 @@ static void test_best_split(void) {
                     fill(table, 6);
                     fill(work, needed);
                     reset();
-                    CHECK(cegridom_best_split(word, n, no_editions[e], choice, table,
+                    CHECK(in_width_best_split(word, n, no_editions[e], choice, table,
                                               few == 1 ? 0 : 5, work, few == 2 ? 0 : needed, &a,
                                               &index_) == CEGRIDOM_BAD_EDITION);
                     CHECK(a == 0 && index_ == 0 && untouched(table, 6) && untouched(work, needed));
@@ -599,11 +755,11 @@ static void test_best_split(void) {
     }
     fill(work, 20);
     reset();
-    CHECK(cegridom_best_split(WORD("aaaa"), 1, 2, table, 2, work, 20, &a, &index_) == 0);
+    CHECK(in_width_best_split(WORD("aaaa"), 1, 2, table, 2, work, 20, &a, &index_) == 0);
     CHECK(work[0] == 0 && work[1] == CEGRIDOM_NONE && work[2] == 1 && work[3] == 1 && work[4] == 2);
     fill(work, 28);
     reset();
-    CHECK(cegridom_best_split(WORD("aaaaaa"), 2, 2, table, 2, work, 28, &a, &index_) == 0);
+    CHECK(in_width_best_split(WORD("aaaaaa"), 2, 2, table, 2, work, 28, &a, &index_) == 0);
     CHECK(work[0] == 0 && work[1] == CEGRIDOM_NONE && work[2] == CEGRIDOM_NONE && work[3] == 1 &&
           work[4] == 1 && work[5] == 1 && work[6] == 2);
     for (uint32_t choice = 0; choice <= 3; choice += 3) {
@@ -613,7 +769,7 @@ static void test_best_split(void) {
                 edition == 1 || edition == 2 ? CEGRIDOM_BAD_CHOICE : CEGRIDOM_BAD_EDITION;
             fill(work, 20);
             reset();
-            CHECK(cegridom_best_split(WORD("aaaa"), edition, choice, table, 2, work, 0, &a,
+            CHECK(in_width_best_split(WORD("aaaa"), edition, choice, table, 2, work, 0, &a,
                                       &index_) == result);
             CHECK(a == 0 && index_ == 0 && untouched(work, 20));
         }
@@ -621,11 +777,11 @@ static void test_best_split(void) {
     for (uint32_t edition = 1; edition <= 2; edition++) {
         uint32_t turns = edition + 1, most = CEGRIDOM_LIMIT / turns;
         reset();
-        CHECK(cegridom_best_split(longest, CEGRIDOM_LIMIT, edition, CEGRIDOM_FEWEST, table, 1, work,
+        CHECK(in_width_best_split(longest, CEGRIDOM_LIMIT, edition, CEGRIDOM_FEWEST, table, 1, work,
                                   CEGRIDOM_WORK_PLACES(CEGRIDOM_LIMIT), &a, &index_) == 0);
         CHECK(a == 1 && table[0] == CEGRIDOM_LIMIT && index_ == 0);
         reset();
-        CHECK(cegridom_best_split(longest, CEGRIDOM_LIMIT, edition, CEGRIDOM_MOST, table,
+        CHECK(in_width_best_split(longest, CEGRIDOM_LIMIT, edition, CEGRIDOM_MOST, table,
                                   CEGRIDOM_MOST_ENDS(CEGRIDOM_LIMIT), work,
                                   CEGRIDOM_WORK_PLACES(CEGRIDOM_LIMIT), &a, &index_) == 0);
         CHECK(a == most && index_ == 0 && table[most - 1] == CEGRIDOM_LIMIT);
@@ -638,7 +794,7 @@ static void test_best_split(void) {
     }
     for (uint32_t edition = 0; edition <= 3; edition++) {
         reset();
-        CHECK(cegridom_best_split(longest, CEGRIDOM_LIMIT + 1, edition, 3, NULL, 0, NULL, 0, &a,
+        CHECK(in_width_best_split(longest, CEGRIDOM_LIMIT + 1, edition, 3, NULL, 0, NULL, 0, &a,
                                   &index_) == CEGRIDOM_TOO_LONG);
         CHECK(a == 0 && index_ == 0);
     }
@@ -725,7 +881,7 @@ static void squares_asked(const struct squared *k, uint32_t choice, uint32_t *en
     fill(table, TABLE_PLACES);
     fill(work, WORK);
     reset();
-    CHECK(cegridom_best_squares(k->word, k->n, choice, ends, end_places, lent, places, &a,
+    CHECK(in_width_best_squares(k->word, k->n, choice, ends, end_places, lent, places, &a,
                                 &index_) == result);
     CHECK(a == size && index_ == 0);
 }
@@ -779,7 +935,7 @@ static void squares_best(const struct squared *k) {
         }
         /* the judge accepts it */
         reset();
-        CHECK(cegridom_judge_squares(k->word, k->n, k->ends, size, &a, &index_) ==
+        CHECK(in_width_judge_squares(k->word, k->n, k->ends, size, &a, &index_) ==
               CEGRIDOM_ACCEPTED);
         CHECK(a == size && index_ == 0);
     }
@@ -798,7 +954,7 @@ static void squares_as_blocks(const struct squared *k, uint32_t result, uint32_t
     uint32_t size = k->sizes[k->n];
     if (size != CEGRIDOM_NONE) {
         reset();
-        CHECK(cegridom_judge_split(k->word, k->n, CEGRIDOM_EDITION_1, k->ends, size, &a, &index_) ==
+        CHECK(in_width_judge_split(k->word, k->n, CEGRIDOM_EDITION_1, k->ends, size, &a, &index_) ==
               result);
         CHECK(a == (result == CEGRIDOM_ACCEPTED ? size : 0) && index_ == index);
     }
@@ -874,7 +1030,7 @@ static void test_long_squares(void) {
 static void squares_judged(const uint8_t *word, size_t n, const uint32_t *ends, size_t count,
                            uint32_t result, uint32_t index, uint32_t squares) {
     reset();
-    CHECK(cegridom_judge_squares(word, n, ends, count, &a, &index_) == result);
+    CHECK(in_width_judge_squares(word, n, ends, count, &a, &index_) == result);
     CHECK(a == squares && index_ == index);
 }
 
@@ -964,13 +1120,13 @@ static void paired(const struct layup *k, const struct layup *l, uint32_t editio
                          : 0;
     fill(work, WORK);
     reset();
-    CHECK(cegridom_which_first(k->word, k->n, l->word, l->n, edition, lent, places, &a, &index_) ==
+    CHECK(in_width_which_first(k->word, k->n, l->word, l->n, edition, lent, places, &a, &index_) ==
           result);
     CHECK(a == which && index_ == 0);
     CHECK(cleared(changed));
     fill(work, WORK);
     reset();
-    CHECK(cegridom_first_block(k->word, k->n, l->word, l->n, edition, lent, places, &a, &b) ==
+    CHECK(in_width_first_block(k->word, k->n, l->word, l->n, edition, lent, places, &a, &b) ==
           CEGRIDOM_ACCEPTED);
     CHECK(a == which && b == length);
     CHECK(cleared(changed));
@@ -1134,15 +1290,34 @@ static int blank(const uint8_t *bytes, size_t count) {
     return 1;
 }
 
+/* The page of codes, from that of bytes: the first four symbols of each unit in the last column. */
+static const char *spelt(const uint8_t *word, size_t count, const char *text) {
+    static char lines[CEGRIDOM_PAGE_BYTES(CEGRIDOM_MOST_ENDS(CEGRIDOM_LIMIT)) + 1];
+    if (spelling == BYTES) {
+        return text;
+    }
+    for (size_t i = 0; i < count; i++) {
+        const char *from = text + CEGRIDOM_PAGE_BYTES(i);
+        char *line = lines + CEGRIDOM_PAGE_BYTES(i), shown[20] = "";
+        unsigned first, unit;
+        CHECK(sscanf(from, "%*6u%6u%*6u%6u", &first, &unit) == 2);
+        for (unsigned k = 0; k < unit && k < 4; k++) {
+            snprintf(shown + 4 * k, 5, "%04x", (unsigned)code_of(word[first - 1 + k]));
+        }
+        snprintf(line, CEGRIDOM_PAGE_BYTES(1) + 1, "%.42s%-18s\n", from, shown);
+    }
+    return lines;
+}
+
 static void page_accepted(const uint8_t *word, size_t n, uint32_t edition, const uint32_t *ends,
                           size_t count, size_t room, const char *text) {
     size_t bytes = CEGRIDOM_PAGE_BYTES(count);
     memset(page, '.', sizeof page);
     reset();
-    CHECK(cegridom_write_page(word, n, edition, ends, count, paper, room, &a, &index_) ==
+    CHECK(in_width_write_page(word, n, edition, ends, count, paper, room, &a, &index_) ==
           CEGRIDOM_ACCEPTED);
     CHECK(a == bytes && index_ == 0);
-    CHECK(memcmp(paper, text, bytes) == 0);
+    CHECK(memcmp(paper, spelt(word, count, text), bytes) == 0);
     CHECK(page[0] == '.' && blank(paper + bytes, sizeof page - 1 - bytes));
 }
 
@@ -1151,7 +1326,7 @@ static void page_refused(const uint8_t *word, size_t n, uint32_t edition, const 
                          uint32_t index) {
     memset(page, '.', sizeof page);
     reset();
-    CHECK(cegridom_write_page(word, n, edition, ends, count, lent, room, &a, &index_) == result);
+    CHECK(in_width_write_page(word, n, edition, ends, count, lent, room, &a, &index_) == result);
     CHECK(a == 0 && index_ == index && blank(page, sizeof page));
 }
 
@@ -1171,19 +1346,19 @@ static void judged(const char *text, uint32_t edition, const uint32_t *ends, siz
     const uint8_t *word = (const uint8_t *)text;
     size_t n = strlen(text);
     reset();
-    CHECK(cegridom_judge_split(word, n, edition, ends, count, &a, &index_) == result);
+    CHECK(in_width_judge_split(word, n, edition, ends, count, &a, &index_) == result);
     CHECK(a == blocks && index_ == index);
     /* path of a split refuses the same */
     fill(table, 5);
     reset();
-    CHECK(cegridom_path_of_split(word, n, edition, ends, count, table, 4, &a, &index_) == result);
+    CHECK(in_width_path_of_split(word, n, edition, ends, count, table, 4, &a, &index_) == result);
     CHECK(a == blocks && index_ == index);
     CHECK(result == 0 || untouched(table, 5));
     /* and so does write a page */
     size_t bytes = CEGRIDOM_PAGE_BYTES(blocks);
     memset(page, '.', sizeof page);
     reset();
-    CHECK(cegridom_write_page(word, n, edition, ends, count, paper, CEGRIDOM_PAGE_BYTES(4), &a,
+    CHECK(in_width_write_page(word, n, edition, ends, count, paper, CEGRIDOM_PAGE_BYTES(4), &a,
                               &index_) == result);
     CHECK(a == bytes && index_ == index);
     CHECK(page[0] == '.' && blank(paper + bytes, sizeof page - 1 - bytes));
@@ -1229,18 +1404,18 @@ static void test_judge_split(void) {
         judged("", no_editions[i], NULL, 0, CEGRIDOM_BAD_EDITION, 0, 0);
         fill(table, 4);
         reset();
-        CHECK(cegridom_path_of_split(WORD("aabaabaa"), no_editions[i], NUMBERS(2, 8), 2, table, 1,
+        CHECK(in_width_path_of_split(WORD("aabaabaa"), no_editions[i], NUMBERS(2, 8), 2, table, 1,
                                      &a, &index_) == CEGRIDOM_BAD_EDITION);
         CHECK(a == 0 && index_ == 0 && untouched(table, 4));
     }
     for (uint32_t edition = 1; edition <= 2; edition++) {
         reset();
-        CHECK(cegridom_judge_split(NULL, 0, edition, NULL, 0, &a, &index_) == CEGRIDOM_ACCEPTED);
+        CHECK(in_width_judge_split(NULL, 0, edition, NULL, 0, &a, &index_) == CEGRIDOM_ACCEPTED);
         CHECK(a == 0 && index_ == 0);
     }
     for (uint32_t edition = 0; edition <= 3; edition++) {
         reset();
-        CHECK(cegridom_judge_split(longest, CEGRIDOM_LIMIT + 1, edition, NUMBERS(0), 1, &a,
+        CHECK(in_width_judge_split(longest, CEGRIDOM_LIMIT + 1, edition, NUMBERS(0), 1, &a,
                                    &index_) == CEGRIDOM_TOO_LONG);
         CHECK(a == 0 && index_ == 0);
     }
@@ -1253,11 +1428,11 @@ static void numbered(const char *text, uint32_t edition, const uint32_t *ends,
     size_t n = strlen(text);
     fill(table, 4);
     reset();
-    CHECK(cegridom_path_of_split(word, n, edition, ends, count, table, count, &a, &index_) == 0);
+    CHECK(in_width_path_of_split(word, n, edition, ends, count, table, count, &a, &index_) == 0);
     CHECK(a == count && index_ == 0 && begins(table, numbers, count));
     fill(table, 4);
     reset();
-    CHECK(cegridom_path_of_split(word, n, edition, ends, count, table, count - 1, &a, &index_) ==
+    CHECK(in_width_path_of_split(word, n, edition, ends, count, table, count - 1, &a, &index_) ==
           CEGRIDOM_TOO_FEW_PLACES);
     CHECK(a == 0 && index_ == 0 && untouched(table, 4));
 }
@@ -1271,17 +1446,18 @@ static void test_path_of_split(void) {
     numbered("aabaabaab", 2, NUMBERS(9), NUMBERS(2), 1);
     fill(table, 4);
     reset();
-    CHECK(cegridom_path_of_split(WORD("aabaabaa"), 1, NUMBERS(6, 8), 2, table, 3, &a, &index_) == 0);
+    CHECK(in_width_path_of_split(WORD("aabaabaa"), 1, NUMBERS(6, 8), 2, table, 3, &a, &index_) ==
+          0);
     CHECK(a == 2 && index_ == 0 && BEGINS(table, 2, 4));
     for (uint32_t edition = 1; edition <= 2; edition++) {
         reset();
-        CHECK(cegridom_path_of_split(NULL, 0, edition, NULL, 0, NULL, 0, &a, &index_) ==
+        CHECK(in_width_path_of_split(NULL, 0, edition, NULL, 0, NULL, 0, &a, &index_) ==
               CEGRIDOM_ACCEPTED);
         CHECK(a == 0 && index_ == 0);
     }
     for (uint32_t edition = 0; edition <= 3; edition++) {
         reset();
-        CHECK(cegridom_path_of_split(longest, CEGRIDOM_LIMIT + 1, edition, NULL, 0, NULL, 0, &a,
+        CHECK(in_width_path_of_split(longest, CEGRIDOM_LIMIT + 1, edition, NULL, 0, NULL, 0, &a,
                                      &index_) == CEGRIDOM_TOO_LONG);
         CHECK(a == 0 && index_ == 0);
     }
@@ -1291,7 +1467,7 @@ static void test_path_of_split(void) {
 static void followed(const char *text, uint32_t edition, const uint32_t *numbers, size_t count,
                      uint32_t result, uint32_t index, uint32_t blocks) {
     reset();
-    CHECK(cegridom_judge_path((const uint8_t *)text, strlen(text), edition, numbers, count, &a,
+    CHECK(in_width_judge_path((const uint8_t *)text, strlen(text), edition, numbers, count, &a,
                               &index_) == result);
     CHECK(a == blocks && index_ == index);
 }
@@ -1344,12 +1520,12 @@ static void test_judge_path(void) {
     }
     for (uint32_t edition = 1; edition <= 2; edition++) {
         reset();
-        CHECK(cegridom_judge_path(NULL, 0, edition, NULL, 0, &a, &index_) == CEGRIDOM_ACCEPTED);
+        CHECK(in_width_judge_path(NULL, 0, edition, NULL, 0, &a, &index_) == CEGRIDOM_ACCEPTED);
         CHECK(a == 0 && index_ == 0);
     }
     for (uint32_t edition = 0; edition <= 3; edition++) {
         reset();
-        CHECK(cegridom_judge_path(longest, CEGRIDOM_LIMIT + 1, edition, NUMBERS(1), 1, &a,
+        CHECK(in_width_judge_path(longest, CEGRIDOM_LIMIT + 1, edition, NUMBERS(1), 1, &a,
                                   &index_) == CEGRIDOM_TOO_LONG);
         CHECK(a == 0 && index_ == 0);
     }
@@ -1427,7 +1603,7 @@ static void test_write_page(void) {
     /* the empty page */
     for (uint32_t edition = 1; edition <= 2; edition++) {
         reset();
-        CHECK(cegridom_write_page(NULL, 0, edition, NULL, 0, NULL, 0, &a, &index_) ==
+        CHECK(in_width_write_page(NULL, 0, edition, NULL, 0, NULL, 0, &a, &index_) ==
               CEGRIDOM_ACCEPTED);
         CHECK(a == 0 && index_ == 0);
         page_accepted(NULL, 0, edition, NULL, 0, 0, "");
@@ -1527,13 +1703,13 @@ static void held_or_not(uint32_t edition, uint32_t before, uint32_t unit) {
     /* what part and runs say of it stays */
     fill(table, TABLE_PLACES);
     reset();
-    CHECK(cegridom_part(word, n, edition, before + 1, n, units, n - before, &a, &b, &c, &d,
+    CHECK(in_width_part(word, n, edition, before + 1, n, units, n - before, &a, &b, &c, &d,
                         &index_) == CEGRIDOM_ACCEPTED);
     CHECK(a == unit && b == turns && c == 0 && d == (uint32_t)held && index_ == 0);
     CHECK(units[0] == 1 && units[n - before - 1] == unit && units[n - before] == GUARD);
     fill(table, TABLE_PLACES);
     reset();
-    CHECK(cegridom_runs(word, n, records, TABLE_PLACES - 2, &a, &index_) == CEGRIDOM_ACCEPTED);
+    CHECK(in_width_runs(word, n, records, TABLE_PLACES - 2, &a, &index_) == CEGRIDOM_ACCEPTED);
     const uint32_t row[] = {before + 1, n, unit, before + 2};
     CHECK(a == whole + turns && index_ == 0);
     CHECK(memcmp(records + CEGRIDOM_RUN_PLACES(whole - 1), row, sizeof row) == 0);
@@ -1541,20 +1717,20 @@ static void held_or_not(uint32_t edition, uint32_t before, uint32_t unit) {
     const uint32_t nodes[] = {whole, whole + turns};
     fill(table, 4);
     reset();
-    CHECK(cegridom_nodes(word, n, edition, n, table, 3, &a, &index_) == CEGRIDOM_ACCEPTED);
+    CHECK(in_width_nodes(word, n, edition, n, table, 3, &a, &index_) == CEGRIDOM_ACCEPTED);
     CHECK(a == 1 + (uint32_t)held && index_ == 0 && begins(table, nodes + !held, a));
     /* the judges, the path and the page */
     reset();
-    CHECK(cegridom_judge_split(word, n, edition, ends, whole, &a, &index_) == result);
+    CHECK(in_width_judge_split(word, n, edition, ends, whole, &a, &index_) == result);
     CHECK(a == blocks && index_ == index);
     fill(table, 4);
     reset();
-    CHECK(cegridom_path_of_split(word, n, edition, ends, whole, table, 3, &a, &index_) == result);
+    CHECK(in_width_path_of_split(word, n, edition, ends, whole, table, 3, &a, &index_) == result);
     CHECK(a == blocks && index_ == index);
     CHECK(held ? begins(table, NUMBERS(1, 2), whole) : untouched(table, 4));
     const uint32_t path[] = {1, ends[0], 2, n};
     reset();
-    CHECK(cegridom_judge_path(word, n, edition, path, 2 * whole, &a, &index_) == result);
+    CHECK(in_width_judge_path(word, n, edition, path, 2 * whole, &a, &index_) == result);
     CHECK(a == blocks && index_ == index);
     if (held) {
         snprintf(text, sizeof text, "%6u%6u%6u%6u%6u%6u%6u%-18s\n", 1, 1, before, 1, before, 0, 1,
@@ -1571,7 +1747,7 @@ static void held_or_not(uint32_t edition, uint32_t before, uint32_t unit) {
         fill(table, 4);
         fill(work, WORK);
         reset();
-        CHECK(cegridom_best_split(word, n, edition, choice, table, 3, work, CEGRIDOM_WORK_PLACES(n),
+        CHECK(in_width_best_split(word, n, edition, choice, table, 3, work, CEGRIDOM_WORK_PLACES(n),
                                   &a, &index_) == (held ? CEGRIDOM_ACCEPTED : CEGRIDOM_NO_SPLIT));
         CHECK(a == blocks && index_ == 0 && work[n] == (held ? whole : CEGRIDOM_NONE));
         CHECK(held ? begins(table, ends, whole) : untouched(table, 4));
@@ -1598,7 +1774,7 @@ static void parted_or_not(uint32_t edition, uint32_t unit) {
     }
     fill(table, 8);
     reset();
-    CHECK(cegridom_best_split(word, n, edition, CEGRIDOM_FEWEST, table, 7, work, WORK, &a,
+    CHECK(in_width_best_split(word, n, edition, CEGRIDOM_FEWEST, table, 7, work, WORK, &a,
                               &index_) == CEGRIDOM_ACCEPTED);
     if (unit <= UNIT_MEMORY) {
         CHECK(a == 1 && index_ == 0 && begins(table, &n, 1));
@@ -1641,7 +1817,7 @@ static void nodes_suffice(const uint8_t *word, size_t n, uint32_t edition, uint3
     }
     fill(table, n + 1);
     reset();
-    CHECK(cegridom_nodes(word, n, edition, position, table, n, &a, &index_) == CEGRIDOM_ACCEPTED);
+    CHECK(in_width_nodes(word, n, edition, position, table, n, &a, &index_) == CEGRIDOM_ACCEPTED);
     CHECK(a == white && index_ == 0 && untouched(table + white, n + 1 - white));
 }
 
@@ -1650,7 +1826,7 @@ static uint32_t runs_suffice(const uint8_t *word, size_t n) {
     static uint32_t rows[CEGRIDOM_MOST_RUN_PLACES(CEGRIDOM_LIMIT)];
     fill(table, TABLE_PLACES);
     reset();
-    CHECK(cegridom_runs(word, n, n > 0 ? records : NULL, CEGRIDOM_MOST_RUN_PLACES(n), &a,
+    CHECK(in_width_runs(word, n, n > 0 ? records : NULL, CEGRIDOM_MOST_RUN_PLACES(n), &a,
                         &index_) == CEGRIDOM_ACCEPTED);
     CHECK((n == 0 ? a == 0 : a < n) && index_ == 0);
     uint32_t count = a < n ? a : 0;
@@ -1672,9 +1848,9 @@ static void ends_suffice(const uint8_t *word, size_t n) {
         for (uint32_t edition = 0; edition <= 2; edition++) {
             fill(ends, most + 1);
             reset();
-            uint32_t result = edition == 0 ? cegridom_best_squares(word, n, choice, ends, most,
+            uint32_t result = edition == 0 ? in_width_best_squares(word, n, choice, ends, most,
                                                                    work, WORK, &a, &index_)
-                                           : cegridom_best_split(word, n, edition, choice, ends,
+                                           : in_width_best_split(word, n, edition, choice, ends,
                                                                  most, work, WORK, &a, &index_);
             uint32_t size = work[n] == CEGRIDOM_NONE ? 0 : work[n];
             CHECK(result == (work[n] == CEGRIDOM_NONE ? CEGRIDOM_NO_SPLIT : CEGRIDOM_ACCEPTED));
@@ -1683,7 +1859,7 @@ static void ends_suffice(const uint8_t *word, size_t n) {
             if (result == CEGRIDOM_ACCEPTED && (edition > 0 || n <= 2 * UNIT_MEMORY)) {
                 fill(table, most + 1);
                 reset();
-                CHECK(cegridom_path_of_split(word, n, edition == 2 ? 2 : 1, ends, size, table, most,
+                CHECK(in_width_path_of_split(word, n, edition == 2 ? 2 : 1, ends, size, table, most,
                                              &a, &index_) == CEGRIDOM_ACCEPTED);
                 CHECK(a == size && index_ == 0 && untouched(table + size, most + 1 - size));
             }
@@ -1840,12 +2016,491 @@ static void test_read_plan(void) {
     CHECK(memcmp(table, ends, sizeof ends) == 0);
 }
 
-int main(void) {
-    memset(longest, 'a', sizeof longest);
-    fill_rich();
-    test_version();
-    test_message();
-    test_unit_places();
+/* What a call on a short word leaves, in tables with places beside them. */
+struct left {
+    uint32_t result, index, values[4], table[40], work[40];
+    uint8_t page[CEGRIDOM_PAGE_BYTES(4)];
+};
+
+static struct left of_bytes, of_codes;
+
+static struct left *fresh(struct left *left) {
+    memset(left, 0xa5, sizeof *left);
+    return left;
+}
+
+/* Short words of small numbers, as bytes and as codes. */
+#define SHORT 7
+static uint8_t small[2][SHORT];
+static uint16_t small_16[2][SHORT];
+
+/* The word number so many of n of these symbols, at a place. */
+static void spell_small(int place, size_t n, uint32_t symbols, uint32_t number) {
+    for (size_t i = 0; i < n; i++) {
+        small[place][i] = (uint8_t)(number % symbols);
+        small_16[place][i] = (uint16_t)(number % symbols);
+        number /= symbols;
+    }
+}
+
+/* Whether both forms of a call on the word at place 0 leave the same. What the call is lent stands
+   in *l. */
+#define SAME(name, ...)                                          \
+    (l = fresh(&of_bytes),                                       \
+     l->result = cegridom_##name(small[0], __VA_ARGS__),         \
+     l = fresh(&of_codes),                                       \
+     l->result = cegridom_##name##_16(small_16[0], __VA_ARGS__), \
+     memcmp(&of_bytes, &of_codes, sizeof of_bytes) == 0)
+
+/* The same for two words. */
+#define SAME_PAIR(name, n, m, ...)                                                  \
+    (l = fresh(&of_bytes),                                                          \
+     l->result = cegridom_##name(small[0], n, small[1], m, __VA_ARGS__),            \
+     l = fresh(&of_codes),                                                          \
+     l->result = cegridom_##name##_16(small_16[0], n, small_16[1], m, __VA_ARGS__), \
+     memcmp(&of_bytes, &of_codes, sizeof of_bytes) == 0)
+
+/* Part, runs and nodes of the word at place 0: any positions, in tables of every size. */
+static int parts_are_same(size_t n) {
+    struct left *l;
+    int same = 1;
+    for (uint32_t edition = 0; edition <= 3; edition++) {
+        for (uint32_t first = 0; first <= n + 1; first++) {
+            for (uint32_t last = 0; last <= n + 1; last++) {
+                for (size_t places = 0; places <= n; places++) {
+                    same &= SAME(part, n, edition, first, last, l->table + 1, places, l->values,
+                                 l->values + 1, l->values + 2, l->values + 3, &l->index);
+                }
+            }
+            for (size_t places = 0; places <= n; places++) {
+                same &= SAME(nodes, n, edition, first, l->table + 1, places, l->values, &l->index);
+            }
+        }
+    }
+    for (size_t places = 0; places <= CEGRIDOM_MOST_RUN_PLACES(n); places++) {
+        same &= SAME(runs, n, l->table + 1, places, l->values, &l->index);
+    }
+    return same;
+}
+
+/* The best splits of it, of each edition and choice and into squares. */
+static int bests_are_same(size_t n) {
+    struct left *l;
+    int same = 1;
+    for (uint32_t choice = 0; choice <= 3; choice++) {
+        for (size_t ends = 0; ends <= CEGRIDOM_MOST_ENDS(n); ends++) {
+            for (size_t fewer = 0; fewer <= 1; fewer++) {
+                size_t places = CEGRIDOM_WORK_PLACES(n) - fewer;
+                for (uint32_t edition = 0; edition <= 3; edition++) {
+                    same &= SAME(best_split, n, edition, choice, l->table + 1, ends, l->work + 1,
+                                 places, l->values, &l->index);
+                }
+                same &= SAME(best_squares, n, choice, l->table + 1, ends, l->work + 1, places,
+                             l->values, &l->index);
+            }
+        }
+    }
+    return same;
+}
+
+/* The judges and the path, of every rising series of ends up to n + 1, as ends and as a path of the
+   first runs. The pages too: but for the last column they are the same. */
+static int judged_is_same(size_t n) {
+    struct left *l;
+    int same = 1;
+    for (uint32_t set = 0; set < 1u << (n + 1); set++) {
+        uint32_t ends[SHORT + 1], path[2 * (SHORT + 1)], count = 0;
+        for (uint32_t end = 1; end <= n + 1; end++) {
+            if (set >> (end - 1) & 1) {
+                path[2 * count] = count + 1;
+                path[2 * count + 1] = end;
+                ends[count++] = end;
+            }
+        }
+        same &= SAME(judge_squares, n, ends, count, l->values, &l->index);
+        for (uint32_t edition = 0; edition <= 3; edition++) {
+            same &= SAME(judge_split, n, edition, ends, count, l->values, &l->index);
+            same &= SAME(judge_path, n, edition, path, 2 * count, l->values, &l->index);
+            same &= SAME(judge_path, n, edition, path + 1, count, l->values, &l->index);
+            for (size_t places = 0; places <= CEGRIDOM_MOST_ENDS(n); places++) {
+                same &= SAME(path_of_split, n, edition, ends, count, l->table + 1, places,
+                             l->values, &l->index);
+                (void)SAME(write_page, n, edition, ends, count, l->page,
+                           CEGRIDOM_PAGE_BYTES(places), l->values, &l->index);
+                for (size_t i = 0; l->result == CEGRIDOM_ACCEPTED && i < count; i++) {
+                    memset(of_bytes.page + CEGRIDOM_PAGE_BYTES(i) + 42, ' ', 18);
+                    memset(of_codes.page + CEGRIDOM_PAGE_BYTES(i) + 42, ' ', 18);
+                }
+                same &= memcmp(&of_bytes, &of_codes, sizeof of_bytes) == 0;
+            }
+        }
+    }
+    return same;
+}
+
+/* Both calls on the words at both places. */
+static int pairs_are_same(size_t n, size_t m) {
+    struct left *l;
+    size_t needed = CEGRIDOM_WORK_PLACES(n > m ? n : m);
+    int same = 1;
+    for (uint32_t edition = 0; edition <= 3; edition++) {
+        for (size_t places = needed - 1; places <= needed + 1; places++) {
+            same &= SAME_PAIR(which_first, n, m, edition, l->work + 1, places, l->values,
+                              &l->index);
+            same &= SAME_PAIR(first_block, n, m, edition, l->work + 1, places, l->values,
+                              l->values + 1);
+        }
+    }
+    return same;
+}
+
+/* Every short word of two symbols and of three. */
+static void test_same_as_bytes(void) {
+    for (uint32_t symbols = 2; symbols <= 3; symbols++) {
+        uint32_t words = 1;
+        for (size_t n = 0; n <= (symbols == 2 ? SHORT : 5); n++) {
+            for (uint32_t number = 0; number < words; number++) {
+                spell_small(0, n, symbols, number);
+                CHECK(parts_are_same(n));
+                CHECK(bests_are_same(n));
+                CHECK(judged_is_same(n));
+            }
+            words *= symbols;
+        }
+    }
+    for (size_t n = 0; n <= 4; n++) {
+        for (size_t m = 0; m <= 4; m++) {
+            for (uint32_t number = 0; number < 1u << n; number++) {
+                spell_small(0, n, 2, number);
+                int same = 1;
+                for (uint32_t other = 0; other < 1u << m; other++) {
+                    spell_small(1, m, 2, other);
+                    same &= pairs_are_same(n, m);
+                }
+                CHECK(same);
+            }
+        }
+    }
+}
+
+/* A word of codes as pointer and length. */
+#define CODES(...) \
+    ((const uint16_t[]){__VA_ARGS__}), (sizeof((const uint16_t[]){__VA_ARGS__}) / sizeof(uint16_t))
+
+/* Words in which codes are equal in their low byte or in their high byte alone: no call takes them
+   for equal. */
+static void test_codes(void) {
+    /* 255, 256, 257 and 65535 stand for themselves */
+    fill(table, TABLE_PLACES);
+    reset();
+    CHECK(cegridom_part_16(CODES(255, 256, 257, 65535, 255, 256), 1, 1, 6, units, 6, &a, &b, &c, &d,
+                           &index_) == CEGRIDOM_ACCEPTED);
+    CHECK(a == 4 && b == 1 && c == 2 && d == 0 && index_ == 0);
+    CHECK(table[0] == GUARD && BEGINS(units, 1, 2, 3, 4, 4, 4));
+    reset();
+    CHECK(cegridom_part_16(CODES(1, 257, 1, 257, 1), 1, 1, 5, units, 5, &a, &b, &c, &d, &index_) ==
+          CEGRIDOM_ACCEPTED);
+    CHECK(a == 2 && b == 2 && c == 1 && d == 1 && index_ == 0);
+    reset();
+    CHECK(cegridom_part_16(CODES(256, 257), 1, 1, 2, units, 2, &a, &b, &c, &d, &index_) ==
+          CEGRIDOM_ACCEPTED);
+    CHECK(a == 2 && b == 1 && c == 0 && d == 0 && index_ == 0);
+    fill(table, TABLE_PLACES);
+    reset();
+    CHECK(cegridom_part_16(CODES(300, 300, 300), 1, 1, 3, units, 2, &a, &b, &c, &d, &index_) ==
+          CEGRIDOM_TOO_FEW_PLACES);
+    CHECK(a == 0 && b == 0 && c == 0 && d == 0 && index_ == 0 && untouched(table, TABLE_PLACES));
+    /* runs and nodes: those of 65535 65535 and of the whole */
+    fill(table, TABLE_PLACES);
+    reset();
+    CHECK(cegridom_runs_16(CODES(65535, 65535, 255, 65535, 65535, 255, 65535), records, 12, &a,
+                           &index_) == CEGRIDOM_ACCEPTED);
+    CHECK(a == 3 && index_ == 0 && table[0] == GUARD);
+    CHECK(BEGINS(records, 1, 2, 1, 1, 1, 7, 3, 3, 4, 5, 1, 4));
+    fill(table, TABLE_PLACES);
+    reset();
+    CHECK(cegridom_runs_16(CODES(65535, 65535, 255, 65535, 65535, 255, 65535), records, 11, &a,
+                           &index_) == CEGRIDOM_TOO_FEW_PLACES);
+    CHECK(a == 0 && index_ == 0 && untouched(table, TABLE_PLACES));
+    reset();
+    CHECK(cegridom_runs_16(CODES(7, 263, 519, 775), NULL, 0, &a, &index_) == CEGRIDOM_ACCEPTED);
+    CHECK(a == 0 && index_ == 0);
+    fill(table, 4);
+    reset();
+    CHECK(cegridom_nodes_16(CODES(65535, 65535, 255, 65535, 65535, 255, 65535), 1, 7, table, 1, &a,
+                            &index_) == CEGRIDOM_ACCEPTED);
+    CHECK(a == 1 && index_ == 0 && BEGINS(table, 2));
+    /* best split and best squares of 256 256 512 512, and of 0 256 which has neither */
+    for (uint32_t choice = 1; choice <= 2; choice++) {
+        fill(table, TABLE_PLACES);
+        fill(work, WORK);
+        reset();
+        CHECK(cegridom_best_split_16(CODES(256, 256, 512, 512), 1, choice, joints, 2, scratch, 20,
+                                     &a, &index_) == CEGRIDOM_ACCEPTED);
+        CHECK(a == 2 && index_ == 0 && table[0] == GUARD && BEGINS(joints, 2, 4));
+        CHECK(work[0] == GUARD && BEGINS(scratch, 0, CEGRIDOM_NONE, 1, CEGRIDOM_NONE, 2, 0, 0, 0, 0,
+                                         0, 0, 0, 0, 0, 0, 0, 0, 0, 0, 0));
+        fill(table, TABLE_PLACES);
+        fill(work, WORK);
+        reset();
+        CHECK(cegridom_best_squares_16(CODES(256, 256, 512, 512), choice, joints, 2, scratch, 20,
+                                       &a, &index_) == CEGRIDOM_ACCEPTED);
+        CHECK(a == 2 && index_ == 0 && table[0] == GUARD && BEGINS(joints, 2, 4));
+        CHECK(work[0] == GUARD && BEGINS(scratch, 0, CEGRIDOM_NONE, 1, CEGRIDOM_NONE, 2, 0, 0, 0, 0,
+                                         0, 0, 0, 0, 0, 0, 0, 0, 0, 0, 0));
+        fill(table, TABLE_PLACES);
+        fill(work, WORK);
+        reset();
+        CHECK(cegridom_best_split_16(CODES(0, 256), 1, choice, joints, 1, scratch, 12, &a,
+                                     &index_) == CEGRIDOM_NO_SPLIT);
+        CHECK(a == 0 && index_ == 0 && untouched(table, TABLE_PLACES));
+        CHECK(BEGINS(scratch, 0, CEGRIDOM_NONE, CEGRIDOM_NONE, 0, 0, 0, 0, 0, 0, 0, 0, 0));
+        fill(work, WORK);
+        reset();
+        CHECK(cegridom_best_squares_16(CODES(0, 256), choice, joints, 1, scratch, 12, &a,
+                                       &index_) == CEGRIDOM_NO_SPLIT);
+        CHECK(a == 0 && index_ == 0 && untouched(table, TABLE_PLACES));
+        CHECK(BEGINS(scratch, 0, CEGRIDOM_NONE, CEGRIDOM_NONE, 0, 0, 0, 0, 0, 0, 0, 0, 0));
+        reset();
+        fill(work, WORK);
+        CHECK(cegridom_best_split_16(CODES(0, 256), 1, choice, joints, 1, scratch, 11, &a,
+                                     &index_) == CEGRIDOM_SHORT_TABLE);
+        CHECK(a == 0 && index_ == 0 && untouched(work, WORK));
+    }
+    /* the judges, and the path */
+    reset();
+    CHECK(cegridom_judge_split_16(CODES(256, 256, 0, 256), 1, NUMBERS(2, 4), 2, &a, &index_) ==
+          CEGRIDOM_NOT_BLOCK);
+    CHECK(a == 0 && index_ == 2);
+    reset();
+    CHECK(cegridom_judge_squares_16(CODES(256, 256, 0, 256), NUMBERS(2, 4), 2, &a, &index_) ==
+          CEGRIDOM_NOT_BLOCK);
+    CHECK(a == 0 && index_ == 2);
+    reset();
+    CHECK(cegridom_judge_squares_16(CODES(0, 65535, 0, 65535), NUMBERS(4), 1, &a, &index_) ==
+          CEGRIDOM_ACCEPTED);
+    CHECK(a == 1 && index_ == 0);
+    fill(table, 4);
+    reset();
+    CHECK(cegridom_path_of_split_16(CODES(256, 256, 0, 0), 1, NUMBERS(2, 4), 2, table, 2, &a,
+                                    &index_) == CEGRIDOM_ACCEPTED);
+    CHECK(a == 2 && index_ == 0 && BEGINS(table, 1, 2));
+    reset();
+    CHECK(cegridom_judge_path_16(CODES(256, 256, 0, 0), 1, NUMBERS(1, 2, 2, 4), 4, &a, &index_) ==
+          CEGRIDOM_ACCEPTED);
+    CHECK(a == 2 && index_ == 0);
+    reset();
+    CHECK(cegridom_judge_path_16(CODES(256, 256, 0, 256), 1, NUMBERS(1, 2, 1, 4), 4, &a, &index_) ==
+          CEGRIDOM_NOT_BLOCK);
+    CHECK(a == 0 && index_ == 2);
+}
+
+/* Roots go by the whole code, without a sign. */
+static void test_code_roots(void) {
+    /* xyxy for any two codes that differ in one bit */
+    for (uint32_t bit = 0; bit < 16; bit++) {
+        int agree = 1;
+        for (uint32_t x = 0; x < 65536; x++) {
+            uint32_t y = x ^ 1u << bit;
+            const uint16_t word[] = {(uint16_t)x, (uint16_t)y, (uint16_t)x, (uint16_t)y};
+            fill(table, 5);
+            agree &= cegridom_runs_16(word, 4, table, 4, &a, &index_) == 0 && a == 1 &&
+                     BEGINS(table, 1, 4, 2, x < y ? 1 : 2);
+        }
+        CHECK(agree);
+    }
+    static const struct {
+        uint16_t unit[4];
+        uint32_t root;
+    } cases[] = {
+        /* the high byte decides, against the low one */
+        {{0x0200, 0x01ff, 0x0300, 0x0201}, 2},
+        {{0x0100, 0x00ff, 0x0101, 0x0102}, 2},
+        /* codes from 0x8000 on come last */
+        {{0x8000, 0xffff, 0x7fff, 0x8001}, 3},
+        {{0xffff, 0x8000, 0xfffe, 0x8001}, 2},
+        /* more than the first symbol decides, by the high byte */
+        {{0x0001, 0x0201, 0x0001, 0x0101}, 3},
+        {{0x0001, 0x0101, 0x0001, 0x0201}, 1},
+    };
+    for (size_t i = 0; i < sizeof cases / sizeof *cases; i++) {
+        uint16_t word[9];
+        for (size_t k = 0; k < 9; k++) {
+            word[k] = cases[i].unit[k % 4];
+        }
+        fill(table, TABLE_PLACES);
+        reset();
+        CHECK(cegridom_runs_16(word, 9, records, 4, &a, &index_) == CEGRIDOM_ACCEPTED);
+        CHECK(a == 1 && index_ == 0 && table[0] == GUARD);
+        CHECK(BEGINS(records, 1, 9, 4, cases[i].root));
+    }
+}
+
+static void code_page(const uint16_t *word, size_t n, uint32_t edition, const uint32_t *ends,
+                      size_t count, const char *text) {
+    size_t bytes = CEGRIDOM_PAGE_BYTES(count);
+    CHECK(strlen(text) == bytes);
+    for (size_t more = 0; more < 3; more++) {
+        memset(page, '.', sizeof page);
+        reset();
+        CHECK(cegridom_write_page_16(word, n, edition, ends, count, paper, bytes + more, &a,
+                                     &index_) == CEGRIDOM_ACCEPTED);
+        CHECK(a == bytes && index_ == 0 && memcmp(paper, text, bytes) == 0);
+        CHECK(page[0] == '.' && blank(paper + bytes, sizeof page - 1 - bytes));
+    }
+    memset(page, '.', sizeof page);
+    reset();
+    CHECK(cegridom_write_page_16(word, n, edition, ends, count, paper, bytes - 1, &a, &index_) ==
+          CEGRIDOM_TOO_FEW_PLACES);
+    CHECK(a == 0 && index_ == 0 && blank(page, sizeof page));
+}
+
+#define CODE_PAGE(word, edition, text, ...) \
+    code_page(word, edition, NUMBERS(__VA_ARGS__), COUNT(__VA_ARGS__), text)
+
+static void test_code_pages(void) {
+    /* units of one code to six: no more than four are shown */
+    CODE_PAGE(CODES(0xabcd, 0xabcd), 1,
+              "     1     1     2     1     2     0     1abcd              \n", 2);
+    CODE_PAGE(CODES(0, 65535, 0, 65535, 0), 1,
+              "     1     1     5     2     2     1     10000ffff          \n", 5);
+    CODE_PAGE(CODES(255, 256, 257, 255, 256, 257), 1,
+              "     1     1     6     3     2     0     100ff01000101      \n", 6);
+    CODE_PAGE(CODES(1, 2, 3, 0x1234, 1, 2, 3, 0x1234), 1,
+              "     1     1     8     4     2     0     10001000200031234  \n", 8);
+    CODE_PAGE(CODES(1, 2, 3, 4, 0x1234, 1, 2, 3, 4, 0x1234), 1,
+              "     1     1    10     5     2     0     10001000200030004  \n", 10);
+    CODE_PAGE(CODES(6, 5, 4, 3, 2, 1, 6, 5, 4, 3, 2, 1), 1,
+              "     1     1    12     6     2     0     10006000500040003  \n", 12);
+    /* two blocks; a byte in four digits; no line is broken at code 10 */
+    CODE_PAGE(CODES('a', 'a', 'b', 10, 'b', 10, 'b'), 1,
+              "     1     1     2     1     2     0     10061              \n"
+              "     2     3     7     2     2     1     20062000a          \n",
+              2, 7);
+    CODE_PAGE(CODES(0xff00, 0xff00, 0xff00, 7, 7, 7, 7), 2,
+              "     1     1     3     1     3     0     1ff00              \n"
+              "     2     4     7     1     4     0     20007              \n",
+              3, 7);
+    /* every code */
+    int agree = 1;
+    for (uint32_t code = 0; code < 65536; code++) {
+        const uint16_t word[] = {(uint16_t)code, (uint16_t)code};
+        char line[CEGRIDOM_PAGE_BYTES(1) + 1];
+        snprintf(line, sizeof line, "%6u%6u%6u%6u%6u%6u%6u%04x%14s\n", 1, 1, 2, 1, 2, 0, 1, code,
+                 "");
+        agree &= cegridom_write_page_16(word, 2, 1, NUMBERS(2), 1, page, 61, &a, &index_) == 0 &&
+                 a == 61 && memcmp(page, line, 61) == 0;
+    }
+    CHECK(agree);
+}
+
+/* Both calls on two words of codes. */
+static void code_pair(const uint16_t *first, size_t n, const uint16_t *second, size_t m,
+                      uint32_t result, uint32_t which, uint32_t length) {
+    size_t needed = CEGRIDOM_WORK_PLACES(n > m ? n : m);
+    fill(work, WORK);
+    reset();
+    CHECK(cegridom_which_first_16(first, n, second, m, 1, scratch, needed, &a, &index_) == result);
+    CHECK(a == which && index_ == 0 && cleared(needed));
+    fill(work, WORK);
+    reset();
+    CHECK(cegridom_first_block_16(first, n, second, m, 1, scratch, needed, &a, &b) ==
+          CEGRIDOM_ACCEPTED);
+    CHECK(a == which && b == length && cleared(needed));
+}
+
+static void test_code_pairs(void) {
+    static const uint16_t equal[] = {300, 300, 300, 300, 300, 300};
+    static const uint16_t low[] = {44, 300, 44, 300}, differ[] = {44, 300};
+    static const uint16_t two[] = {300, 300, 44, 44, 44};
+    /* lengths count symbols, not bytes */
+    code_pair(equal, 6, two, 5, CEGRIDOM_ACCEPTED, 1, 6);
+    code_pair(two, 5, equal, 6, CEGRIDOM_ACCEPTED, 2, 6);
+    code_pair(two, 5, differ, 2, CEGRIDOM_ACCEPTED, 1, 2);
+    code_pair(differ, 2, low, 4, CEGRIDOM_ACCEPTED, 2, 4);
+    code_pair(differ, 2, differ, 2, CEGRIDOM_NO_SPLIT, 0, 0);
+    code_pair(differ, 2, NULL, 0, CEGRIDOM_ACCEPTED, 2, 0);
+    /* words that overlap, and one word twice */
+    code_pair(equal, 4, equal + 2, 4, CEGRIDOM_ACCEPTED, 1, 4);
+    code_pair(equal + 5, 1, equal + 1, 5, CEGRIDOM_ACCEPTED, 2, 5);
+    code_pair(two, 5, two, 5, CEGRIDOM_ACCEPTED, 1, 2);
+    code_pair(two, 5, two + 2, 3, CEGRIDOM_ACCEPTED, 2, 3);
+}
+
+/* More codes than bytes have. */
+static void test_many_codes(void) {
+    static uint16_t word[CEGRIDOM_LIMIT + 1];
+    const uint32_t half = CEGRIDOM_LIMIT / 2, whole = CEGRIDOM_LIMIT;
+    /* 2,048 different codes, twice: one square, whose unit is too long for a block */
+    for (uint32_t i = 0; i < CEGRIDOM_LIMIT; i++) {
+        word[i] = (uint16_t)(40503 * (i % half + 1));
+    }
+    uint32_t root = 1;
+    for (uint32_t i = 1; i <= half; i++) {
+        root = word[i - 1] < word[root - 1] ? i : root;
+    }
+    fill(table, TABLE_PLACES);
+    reset();
+    CHECK(cegridom_runs_16(word, CEGRIDOM_LIMIT, records, 4, &a, &index_) == CEGRIDOM_ACCEPTED);
+    CHECK(a == 1 && index_ == 0 && table[0] == GUARD && BEGINS(records, 1, whole, half, root));
+    reset();
+    CHECK(cegridom_judge_squares_16(word, CEGRIDOM_LIMIT, &whole, 1, &a, &index_) ==
+          CEGRIDOM_ACCEPTED);
+    CHECK(a == 1 && index_ == 0);
+    reset();
+    CHECK(cegridom_judge_split_16(word, CEGRIDOM_LIMIT, 1, &whole, 1, &a, &index_) ==
+          CEGRIDOM_NOT_BLOCK);
+    CHECK(a == 0 && index_ == 1);
+    for (uint32_t choice = 1; choice <= 2; choice++) {
+        fill(table, TABLE_PLACES);
+        fill(work, WORK);
+        reset();
+        CHECK(cegridom_best_squares_16(word, CEGRIDOM_LIMIT, choice, joints, JOINTS, scratch,
+                                       SCRATCH, &a, &index_) == CEGRIDOM_ACCEPTED);
+        CHECK(a == 1 && index_ == 0 && table[0] == GUARD && BEGINS(joints, whole));
+        reset();
+        CHECK(cegridom_best_split_16(word, CEGRIDOM_LIMIT, 1, choice, joints, JOINTS, scratch,
+                                     SCRATCH, &a, &index_) == CEGRIDOM_NO_SPLIT);
+        CHECK(a == 0 && index_ == 0);
+    }
+    fill(table, TABLE_PLACES);
+    reset();
+    CHECK(cegridom_part_16(word, CEGRIDOM_LIMIT, 1, 1, whole, units, CEGRIDOM_LIMIT, &a, &b, &c, &d,
+                           &index_) == CEGRIDOM_ACCEPTED);
+    CHECK(a == half && b == 2 && c == 0 && d == 0 && index_ == 0);
+    CHECK(table[0] == GUARD && units[half - 1] == half && units[CEGRIDOM_LIMIT] == GUARD);
+    /* the last symbol changed in its high byte */
+    word[CEGRIDOM_LIMIT - 1] ^= 0x4000;
+    reset();
+    CHECK(cegridom_judge_squares_16(word, CEGRIDOM_LIMIT, &whole, 1, &a, &index_) ==
+          CEGRIDOM_NOT_BLOCK);
+    CHECK(a == 0 && index_ == 1);
+    /* 256 codes of one low byte as the unit, which memory holds */
+    for (uint32_t i = 0; i < CEGRIDOM_LIMIT; i++) {
+        word[i] = (uint16_t)(256 * (i % 256) + 7);
+    }
+    fill(table, TABLE_PLACES);
+    reset();
+    CHECK(cegridom_best_split_16(word, CEGRIDOM_LIMIT, 1, CEGRIDOM_FEWEST, joints, 1, scratch,
+                                 CEGRIDOM_WORK_PLACES(CEGRIDOM_LIMIT), &a, &index_) ==
+          CEGRIDOM_ACCEPTED);
+    CHECK(a == 1 && index_ == 0 && table[0] == GUARD && BEGINS(joints, whole));
+    code_page(word, CEGRIDOM_LIMIT, 1, &whole, 1,
+              "     1     1  4096   256    16     0     10007010702070307  \n");
+    /* 4,096 different codes, and one more symbol */
+    for (uint32_t i = 0; i < CEGRIDOM_LIMIT; i++) {
+        word[i] = (uint16_t)(16 * i + i / 256);
+    }
+    reset();
+    CHECK(cegridom_runs_16(word, CEGRIDOM_LIMIT, NULL, 0, &a, &index_) == CEGRIDOM_ACCEPTED);
+    CHECK(a == 0 && index_ == 0);
+    reset();
+    CHECK(cegridom_runs_16(word, CEGRIDOM_LIMIT + 1, NULL, 0, &a, &index_) == CEGRIDOM_TOO_LONG);
+    CHECK(a == 0 && index_ == 0);
+}
+
+/* Every test on words, of what these are made of. */
+static void test_words(void) {
     test_part();
     test_longest_part();
     test_runs();
@@ -1864,6 +2519,23 @@ int main(void) {
     test_longest_page();
     test_unit_memory();
     test_sizes();
+}
+
+int main(void) {
+    memset(longest, 'a', sizeof longest);
+    fill_rich();
+    test_version();
+    test_message();
+    test_unit_places();
+    for (spelling = BYTES; spelling < SPELLINGS; spelling++) {
+        test_words();
+    }
+    test_same_as_bytes();
+    test_codes();
+    test_code_roots();
+    test_code_pages();
+    test_code_pairs();
+    test_many_codes();
     test_write_plan();
     test_read_plan();
     if (failed > 0) {

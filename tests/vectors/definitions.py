@@ -1,13 +1,13 @@
 #!/usr/bin/env python3
-"""The definitions and calls of document 01 and of document 02's items 1 to 4 and 6 to 9, as plainly as
+"""The definitions and calls of document 01 and of document 02's items 1 to 4 and 6 to 10, as plainly as
 the documents state them, for the expected outputs of the test programs. Nothing is taken from the
 library or from its runs.
 
-A word (sequence) is a bytes object, a joint m stands after pass number m, and the part between the
-joints a and b is word[a:b]. A definition of blocks or nodes is told k, the turns that a block has at
-least, and a call the edition, which sets k; where blocks are squares, k is SQUARES. A call takes what
-it is lent and gives its outcome, and then each lent table as it is afterwards; a lent table is a
-list, and is not changed in place.
+A word (sequence) is a bytes object, or a tuple of 16-bit codes. A joint m stands after pass number m,
+and the part between the joints a and b is word[a:b]. A definition of blocks or nodes is told k, the
+turns that a block has at least, and a call the edition, which sets k; where blocks are squares, k is
+SQUARES. A call takes what it is lent and gives its outcome, and then each lent table as it is
+afterwards; a lent table is a list, and is not changed in place.
 
 Run by itself, this file compares the definitions with one another and with worked examples.
 """
@@ -354,11 +354,13 @@ def judge_path(word, edition, numbers):
 
 
 def page_line(number, word, a, b, run):
-    """One block's line: seven columns of six characters, right-aligned, and one of eighteen."""
+    """One block's line: seven columns of six characters, right-aligned, and one of eighteen, which shows
+    nine bytes in two digits each, or four codes in four."""
     p = unit(word[a:b])
     columns = number, a + 1, b, p, (b - a) // p, (b - a) % p, run
-    passes = word[a : a + p][:9]
-    return b"".join(b"%6d" % column for column in columns) + passes.hex().encode().ljust(18) + b"\n"
+    digits, shown = (2, 9) if isinstance(word, bytes) else (4, 4)
+    passes = b"".join(b"%0*x" % (digits, code) for code in word[a : a + p][:shown])
+    return b"".join(b"%6d" % column for column in columns) + passes.ljust(18) + b"\n"
 
 
 def write_page(word, edition, ends, out):
@@ -594,6 +596,10 @@ RUNS_OF = [  # word, and first, last, unit and root of each run; worked out by h
     (b"\x80\x01\x80\x01", [(1, 4, 2, 2)]),
     (b"\x7f\x80\x7f\x80", [(1, 4, 2, 1)]),
     (b"\x80\xff\x80\x7f\x80\xff\x80\x7f", [(1, 8, 4, 4)]),
+    # 16-bit codes
+    ((1, 257), []),
+    ((256, 1, 256, 1), [(1, 4, 2, 2)]),
+    ((32768, 1, 32768, 1), [(1, 4, 2, 2)]),
 ]
 
 JUDGED = [  # on aabaabaa, edition 1: ends, and the document's refusal
@@ -733,6 +739,20 @@ def compare_item_9():
     expect((outcome, ends) == (refused(2), [7]), "fewest blocks of unit", p)
 
 
+def compare_item_10():
+    """A page of codes: four digits each, and four passes of a unit of five; and codes that differ by 256
+    are not equal."""
+    page = (
+        b"     1     1     2     1     2     0     10100              \n"
+        b"     2     3    12     5     2     0     2000aabcd000000ff  \n"
+    )
+    word = (256, 256) + (10, 43981, 0, 255, 65535) * 2
+    given = write_page(word, 1, [2, 12], [7] * 123)
+    expect(given == (accepted(122), list(page) + [7]), "page of codes")
+    expect(judge_squares((1, 257), [2]) == refused(4, 1), "square of 1 and 257")
+    expect(judge_squares((1, 257, 1, 257), [4]) == accepted(1), "square of 1 and 257 twice")
+
+
 def remember(passes):
     """Sets what unit memory holds, and forgets what was worked out with another."""
     global UNIT_MEMORY
@@ -794,6 +814,7 @@ def main():
     compare_with_document()
     compare_squares_with_examples()
     compare_item_9()
+    compare_item_10()
     words = [bytes(letters) for n in range(9) for letters in product(b"ab", repeat=n)]
     # few of these have a split in edition 2
     longer = [word for word, *_ in EXAMPLES[2] if 8 < len(word)]

@@ -58,6 +58,6 @@ pub squares-judged : resultOf (squaresJudgedOutcome word-aaaa (2 ∷ 3 ∷ [])) 
 unfolding squaresJudgedOutcome verdict square?
 squares-judged = refl
 
--- 0.8
-pub version-is-0-9 : version ≡ 9
-version-is-0-9 = refl
+-- 0.10
+pub version-is-0-10 : version ≡ 10
+version-is-0-10 = refl

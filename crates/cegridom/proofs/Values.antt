@@ -17,6 +17,7 @@ use Rattle.squares.specs.BestSquares.{SquaresMeaning}
 use Rattle.squares.specs.JudgeSquares.{SquaresJudgedMeaning}
 use Rattle.comparison.specs.Calls.{Compared, WhichMeaning}
 use Rattle.paths.specs.Calls.{PathMeaning, PathJudgedMeaning}
+use Rattle.page_lines.specs.declared.Form.{Form}
 use Rattle.pages.specs.Page.{PageMeaning}
 use Rattle.plans.specs.Calls.{WriteMeaning, ReadMeaning}
 use Rattle.cegridom.proofs.Claims.{HasValues}
@@ -94,10 +95,10 @@ path-values w edition ends t o u (PathMeaning.refused-split x i s e k) = known 1
 path-values w edition ends t o u (PathMeaning.too-few a i f b e k) = known 1 o (refused 7 0) e (lit≤ tt)
 path-values w edition ends t o u (PathMeaning.numbered a i f b xs p g e k) = known 1 o _ e refl
 
-pub page-values : (w : List ℕ) (edition : ℕ) (ends t : List ℕ) (o : Outcome) (u : List ℕ) → PageMeaning w edition ends t o u → HasValues 1 o
-page-values w edition ends t o u (PageMeaning.refused-split x i s e k) = known 1 o (refused x i) e (split-values w edition ends (refused x i) s)
-page-values w edition ends t o u (PageMeaning.too-few a i f b e k) = known 1 o (refused 7 0) e (lit≤ tt)
-page-values w edition ends t o u (PageMeaning.written a i f b s l e k) = known 1 o _ e refl
+pub page-values : (form : Form) (w : List ℕ) (edition : ℕ) (ends t : List ℕ) (o : Outcome) (u : List ℕ) → PageMeaning form w edition ends t o u → HasValues 1 o
+page-values form w edition ends t o u (PageMeaning.refused-split x i s e k) = known 1 o (refused x i) e (split-values w edition ends (refused x i) s)
+page-values form w edition ends t o u (PageMeaning.too-few a i f b e k) = known 1 o (refused 7 0) e (lit≤ tt)
+page-values form w edition ends t o u (PageMeaning.written a i f b s l e k) = known 1 o _ e refl
 
 pub path-judged-values : (w : List ℕ) (edition : ℕ) (ns : List ℕ) (o : Outcome) → PathJudgedMeaning w edition ns o → HasValues 1 o
 path-judged-values w edition ns o (PathJudgedMeaning.too-long a e) = known 1 o (refused 1 0) e (lit≤ tt)

@@ -8,6 +8,7 @@ use Rattle.repetitions.specs.BestSplit.{bestOutcome, BestMeaning}
 use Rattle.squares.specs.BestSquares.{squaresOutcome, SquaresMeaning}
 use Rattle.comparison.specs.Calls.{whichOutcome, WhichMeaning}
 use Rattle.paths.specs.Calls.{pathOutcome, PathMeaning}
+use Rattle.page_lines.specs.declared.Form.{Form}
 use Rattle.pages.specs.Page.{pageOutcome, PageMeaning}
 
 -- 0 for accepted, else the refusal's number
@@ -41,9 +42,9 @@ WhichHanded a b edition t y = WhichMeaning a b edition t (whichOutcome a b editi
 abbrev pub PathHanded : List ℕ → ℕ → List ℕ → List ℕ → List ℕ → Type 0
 PathHanded w edition ends t u = PathMeaning w edition ends t (pathOutcome w edition ends (length t)) u
 
-abbrev pub PageHanded : List ℕ → ℕ → List ℕ → List ℕ → List ℕ → Type 0
-PageHanded w edition ends t u = PageMeaning w edition ends t (pageOutcome w edition ends (length t)) u
+abbrev pub PageHanded : Form → List ℕ → ℕ → List ℕ → List ℕ → List ℕ → Type 0
+PageHanded form w edition ends t u = PageMeaning form w edition ends t (pageOutcome form w edition ends (length t)) u
 
--- 1,000 × the major number + the minor one, of version 0.9
+-- 1,000 × the major number + the minor one, of version 0.10
 abbrev pub version : ℕ
-version = 9
+version = 10

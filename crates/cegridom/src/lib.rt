@@ -17,19 +17,23 @@ ghost use Rattle.squares.specs.BestSquares.{squaresOutcome, squaresEnds, square
 ghost use Rattle.squares.specs.JudgeSquares.{squaresJudgedOutcome, SquaresJudgedMeaning};
 ghost use Rattle.comparison.specs.Calls.{whichOutcome, whichWork, wordIn, lengthIn, firstWhich, firstLength, FirstMeaning};
 ghost use Rattle.paths.specs.Calls.{pathOutcome, pathTable, pathJudgedOutcome, PathJudgedMeaning};
+ghost use Rattle.page_lines.specs.Line.{byteForm};
 ghost use Rattle.pages.specs.Page.{pageOutcome, pageTable};
 ghost use Rattle.plans.specs.Calls.{planView, writeOutcome, writeTable, WriteMeaning, readOutcome, readTable, ReadMeaning};
 ghost use Rattle.cegridom.specs.Export.{resultOf, indexOf, valueOf, PartHanded, BestHanded, SquaresHanded, WhichHanded, PathHanded, PageHanded, version};
+
+mod codes;
+
 use answers::Counted;
 use comparison::Chosen;
 use periods::PartAnswer;
 use plans::PlanAnswer;
 
 // The version of this interface, 1,000 × major + minor.
-pub const VERSION: u32 = 9;
+pub const VERSION: u32 = 10;
 
 // Takes an answer that gives one number apart.
-fn hand_over(answer: Counted, count: &mut u32, index: &mut u32) -> u32
+pub(crate) fn hand_over(answer: Counted, count: &mut u32, index: &mut u32) -> u32
     ensures { λ r. ⌜ r ≡ resultOf (countedView answer) ⌝ }
     ensures { λ _. ⌜ now (count .exit) ≡ valueOf 0 (countedView answer) ⌝ }
     ensures { λ _. ⌜ now (index .exit) ≡ indexOf (countedView answer) ⌝ }
@@ -50,7 +54,7 @@ fn hand_over(answer: Counted, count: &mut u32, index: &mut u32) -> u32
 }
 
 // The same for the answer of the part call.
-fn hand_over_part(
+pub(crate) fn hand_over_part(
     answer: PartAnswer,
     unit: &mut u32,
     turns: &mut u32,
@@ -87,7 +91,12 @@ fn hand_over_part(
 }
 
 // The same for the answer of the plan reader.
-fn hand_over_plan(answer: PlanAnswer, n: &mut u32, count: &mut u32, index: &mut u32) -> u32
+pub(crate) fn hand_over_plan(
+    answer: PlanAnswer,
+    n: &mut u32,
+    count: &mut u32,
+    index: &mut u32,
+) -> u32
     ensures { λ r. ⌜ r ≡ resultOf (planView answer) ⌝ }
     ensures { λ _. ⌜ now (n .exit) ≡ valueOf 0 (planView answer) ⌝ }
     ensures { λ _. ⌜ now (count .exit) ≡ valueOf 1 (planView answer) ⌝ }
@@ -112,7 +121,7 @@ fn hand_over_plan(answer: PlanAnswer, n: &mut u32, count: &mut u32, index: &mut 
 
 // Takes what is chosen of two words apart: the word's number and the length of its first block, 0
 // and 0 where none is chosen.
-fn hand_over_choice(answer: Chosen, which: &mut u32, symbols: &mut u32) -> u32
+pub(crate) fn hand_over_choice(answer: Chosen, which: &mut u32, symbols: &mut u32) -> u32
     ensures { λ r. ⌜ r ≡ 0 ⌝ }
     ensures { λ _. ⌜ now (which .exit) ≡ wordIn answer ⌝ }
     ensures { λ _. ⌜ now (symbols .exit) ≡ lengthIn answer ⌝ }
@@ -179,7 +188,7 @@ pub extern "C" fn cegridom_runs(
     ensures written { λ _. ⌜ now (table .exit) ≡ runsTable (now (w .entry)) (now (table .entry)) ⌝ }
     ensures meaning { λ _. ⌜ RunsMeaning (now (w .entry)) (now (table .entry)) (runsOutcome (now (w .entry)) (length (now (table .entry)))) (now (table .exit)) ⌝ }
 {
-    let answer = run_table::runs(w, table);
+    let answer = bytes::runs(w, table);
     hand_over(answer, count, index)
 }
 
@@ -200,7 +209,7 @@ pub extern "C" fn cegridom_nodes(
     ensures written { λ _. ⌜ now (table .exit) ≡ nodesTable (now (w .entry)) edition position (now (table .entry)) ⌝ }
     ensures meaning { λ _. ⌜ NodesMeaning (now (w .entry)) edition position (now (table .entry)) (nodesOutcome (now (w .entry)) edition position (length (now (table .entry)))) (now (table .exit)) ⌝ }
 {
-    let answer = nodes::nodes(w, edition, position, table);
+    let answer = bytes::nodes(w, edition, position, table);
     hand_over(answer, count, index)
 }
 
@@ -223,7 +232,7 @@ pub extern "C" fn cegridom_best_split(
     ensures worked { λ _. ⌜ now (work .exit) ≡ bestWork (now (w .entry)) edition choice (now (work .entry)) ⌝ }
     ensures meaning { λ _. ⌜ BestHanded (now (w .entry)) edition choice (now (ends .entry)) (now (work .entry)) (now (ends .exit)) (now (work .exit)) ⌝ }
 {
-    let answer = repetitions::best_split(w, edition, choice, ends, work);
+    let answer = bytes::best_split(w, edition, choice, ends, work);
     hand_over(answer, size, index)
 }
 
@@ -245,7 +254,7 @@ pub extern "C" fn cegridom_best_squares(
     ensures worked { λ _. ⌜ now (work .exit) ≡ squaresWork (now (w .entry)) choice (now (work .entry)) ⌝ }
     ensures meaning { λ _. ⌜ SquaresHanded (now (w .entry)) choice (now (ends .entry)) (now (work .entry)) (now (ends .exit)) (now (work .exit)) ⌝ }
 {
-    let answer = squares::best_squares(w, choice, ends, work);
+    let answer = bytes::best_squares(w, choice, ends, work);
     hand_over(answer, size, index)
 }
 
@@ -266,7 +275,7 @@ pub extern "C" fn cegridom_which_first(
     ensures worked { λ _. ⌜ now (work .exit) ≡ whichWork (now (a .entry)) (now (b .entry)) edition (now (work .entry)) ⌝ }
     ensures meaning { λ _. ⌜ WhichHanded (now (a .entry)) (now (b .entry)) edition (now (work .entry)) (now (work .exit)) ⌝ }
 {
-    let answer = comparison::which_first(a, b, edition, work);
+    let answer = bytes::which_first(a, b, edition, work);
     hand_over(answer, which, index)
 }
 
@@ -287,7 +296,7 @@ pub extern "C" fn cegridom_first_block(
     ensures worked { λ _. ⌜ now (work .exit) ≡ whichWork (now (a .entry)) (now (b .entry)) edition (now (work .entry)) ⌝ }
     ensures meaning { λ _. ⌜ FirstMeaning (now (a .entry)) (now (b .entry)) edition (now (work .entry)) (now (which .exit)) (now (symbols .exit)) (now (work .exit)) ⌝ }
 {
-    let answer = comparison::inner::compare(a, b, edition, work);
+    let answer = bytes::compare(a, b, edition, work);
     hand_over_choice(answer, which, symbols)
 }
 
@@ -343,7 +352,7 @@ pub extern "C" fn cegridom_path_of_split(
     ensures written { λ _. ⌜ now (table .exit) ≡ pathTable (now (w .entry)) edition (now (ends .entry)) (now (table .entry)) ⌝ }
     ensures meaning { λ _. ⌜ PathHanded (now (w .entry)) edition (now (ends .entry)) (now (table .entry)) (now (table .exit)) ⌝ }
 {
-    let answer = paths::path_of_split(w, edition, ends, table);
+    let answer = bytes::path_of_split(w, edition, ends, table);
     hand_over(answer, blocks, index)
 }
 
@@ -362,7 +371,7 @@ pub extern "C" fn cegridom_judge_path(
     ensures index { λ _. ⌜ now (index .exit) ≡ indexOf (pathJudgedOutcome (now (w .entry)) edition (now (numbers .entry))) ⌝ }
     ensures meaning { λ _. ⌜ PathJudgedMeaning (now (w .entry)) edition (now (numbers .entry)) (pathJudgedOutcome (now (w .entry)) edition (now (numbers .entry))) ⌝ }
 {
-    let answer = paths::judge_path(w, edition, numbers);
+    let answer = bytes::judge_path(w, edition, numbers);
     hand_over(answer, blocks, index)
 }
 
@@ -377,13 +386,13 @@ pub extern "C" fn cegridom_write_page(
     bytes: &mut u32,
     index: &mut u32,
 ) -> u32
-    ensures result { λ r. ⌜ r ≡ resultOf (pageOutcome (now (w .entry)) edition (now (ends .entry)) (length (now (out .entry)))) ⌝ }
-    ensures bytes { λ _. ⌜ now (bytes .exit) ≡ valueOf 0 (pageOutcome (now (w .entry)) edition (now (ends .entry)) (length (now (out .entry)))) ⌝ }
-    ensures index { λ _. ⌜ now (index .exit) ≡ indexOf (pageOutcome (now (w .entry)) edition (now (ends .entry)) (length (now (out .entry)))) ⌝ }
-    ensures written { λ _. ⌜ now (out .exit) ≡ pageTable (now (w .entry)) edition (now (ends .entry)) (now (out .entry)) ⌝ }
-    ensures meaning { λ _. ⌜ PageHanded (now (w .entry)) edition (now (ends .entry)) (now (out .entry)) (now (out .exit)) ⌝ }
+    ensures result { λ r. ⌜ r ≡ resultOf (pageOutcome byteForm (now (w .entry)) edition (now (ends .entry)) (length (now (out .entry)))) ⌝ }
+    ensures bytes { λ _. ⌜ now (bytes .exit) ≡ valueOf 0 (pageOutcome byteForm (now (w .entry)) edition (now (ends .entry)) (length (now (out .entry)))) ⌝ }
+    ensures index { λ _. ⌜ now (index .exit) ≡ indexOf (pageOutcome byteForm (now (w .entry)) edition (now (ends .entry)) (length (now (out .entry)))) ⌝ }
+    ensures written { λ _. ⌜ now (out .exit) ≡ pageTable byteForm (now (w .entry)) edition (now (ends .entry)) (now (out .entry)) ⌝ }
+    ensures meaning { λ _. ⌜ PageHanded byteForm (now (w .entry)) edition (now (ends .entry)) (now (out .entry)) (now (out .exit)) ⌝ }
 {
-    let answer = pages::write_page(w, edition, ends, out);
+    let answer = bytes::write_page(w, edition, ends, out);
     hand_over(answer, bytes, index)
 }
 

@@ -2,15 +2,19 @@
 ghost use mathlib.Core.Path.{_≡_};
 ghost use Prim.Native.Nat.{max};
 ghost use lib.ListN.{length, getD};
+ghost use Rattle.answers.specs.Outcome.{countedView};
 ghost use Rattle.periods.specs.Period.{heldPeriod};
 ghost use Rattle.periods.specs.Edition.{Edition, turnsOf};
 ghost use Rattle.factors.specs.Factorization.{smallest};
 ghost use Rattle.factors.specs.Table.{filled};
 ghost use Rattle.factorizer.specs.Fill.{Workable, Readable};
 ghost use Rattle.repetitions.specs.Block.{block?};
-ghost use Rattle.comparison.specs.Calls.{compared, whichWork};
+ghost use Rattle.comparison.specs.Calls.{compared, whichView, whichWork};
 ghost use Rattle.comparison.specs.Measure.{fewestSize, firstEnd, endIn, chosenBy};
 use super::Chosen;
+use super::FIRST;
+use super::SECOND;
+use answers::Counted;
 use answers::Refusal;
 use factors::NONE;
 
@@ -37,7 +41,7 @@ fn read_off(work: &[u32], n: usize) -> Measured
 }
 
 // Fills the table for a word and reads it off.
-fn measure(w: &[u8], edition: u32, work: &mut [u32]) -> Measured
+fn measure(w: &[u16], edition: u32, work: &mut [u32]) -> Measured
     requires { ⌜ Workable (now w) (now work) × Edition edition ⌝ }
     ensures { λ r. ⌜ (r .size ≡ fewestSize (turnsOf edition) (now (w .entry))) × (r .end ≡ firstEnd (turnsOf edition) (now (w .entry))) ⌝ }
     ensures { λ _. ⌜ now (work .exit) ≡ filled smallest (block? heldPeriod (turnsOf edition) (now (w .entry))) (length (now (w .entry))) (now (work .entry)) ⌝ }
@@ -60,7 +64,7 @@ fn choose(a: Measured, b: Measured) -> Chosen
 }
 
 // The longer of two lengths.
-fn longer(a: usize, b: usize) -> usize
+pub fn longer(a: usize, b: usize) -> usize
     ensures { λ r. ⌜ r ≡ max a b ⌝ }
 {
     if a < b {
@@ -70,7 +74,7 @@ fn longer(a: usize, b: usize) -> usize
 }
 
 // The word to wind first, and the length of its first block; what which first and first block go by.
-pub fn compare(a: &[u8], b: &[u8], edition: u32, work: &mut [u32]) -> Chosen
+pub fn compare(a: &[u16], b: &[u16], edition: u32, work: &mut [u32]) -> Chosen
     ensures answer { λ r. ⌜ r ≡ compared (now (a .entry)) (now (b .entry)) edition (length (now (work .entry))) ⌝ }
     ensures worked { λ _. ⌜ now (work .exit) ≡ whichWork (now (a .entry)) (now (b .entry)) edition (now (work .entry)) ⌝ }
 {
@@ -89,4 +93,15 @@ pub fn compare(a: &[u8], b: &[u8], edition: u32, work: &mut [u32]) -> Chosen
     let second = measure(b, edition, work);
     factors::inner::clear(&mut work[0..places]);
     choose(first, second)
+}
+
+// What which first answers of what is chosen.
+pub fn number_of(chosen: Chosen) -> Counted
+    ensures { λ r. ⌜ countedView r ≡ whichView chosen ⌝ }
+{
+    match chosen {
+        Chosen::First(_) => Counted::Count(FIRST),
+        Chosen::Second(_) => Counted::Count(SECOND),
+        Chosen::Refused(r) => Counted::Refused(r),
+    }
 }

@@ -1,5 +1,5 @@
 // Which of two words to wind first: the one with fewer blocks in its smallest factorization, and the
-// first block of that one.
+// first block of that one. The calls are on 16-bit symbols; `bytes` has their forms on bytes.
 ghost use mathlib.Core.Path.{_≡_};
 ghost use lib.ListN.{length};
 ghost use Rattle.answers.specs.Outcome.{countedView};
@@ -26,22 +26,18 @@ pub enum Chosen {
 // if only one can be split it is that one. With n the longer length, the first 4 × (n + 1) places of
 // the working table are 0 afterwards, also after 2. Refusals: 1 for either, 12, 9 for the longer, 2.
 // Time: that of two fewest splits; under 450 bytes of stack.
-pub fn which_first(a: &[u8], b: &[u8], edition: u32, work: &mut [u32]) -> Counted
+pub fn which_first_16(a: &[u16], b: &[u16], edition: u32, work: &mut [u32]) -> Counted
     ensures answer { λ r. ⌜ countedView r ≡ whichOutcome (now (a .entry)) (now (b .entry)) edition (length (now (work .entry))) ⌝ }
     ensures worked { λ _. ⌜ now (work .exit) ≡ whichWork (now (a .entry)) (now (b .entry)) edition (now (work .entry)) ⌝ }
     ensures meaning { λ r. ⌜ WhichMeaning (now (a .entry)) (now (b .entry)) edition (now (work .entry)) (countedView r) (now (work .exit)) ⌝ }
 {
-    match inner::compare(a, b, edition, work) {
-        Chosen::First(_) => Counted::Count(FIRST),
-        Chosen::Second(_) => Counted::Count(SECOND),
-        Chosen::Refused(r) => Counted::Refused(r),
-    }
+    inner::number_of(inner::compare(a, b, edition, work))
 }
 
 // First block: of the word that which first answers, the first block of its fewest split, as a part
-// of the caller's own bytes; an empty part where which first refuses. The working table is left as
+// of the caller's own symbols; an empty part where which first refuses. The working table is left as
 // which first leaves it, and time and stack are the same.
-pub fn first_block<'a>(a: &'a [u8], b: &'a [u8], edition: u32, work: &mut [u32]) -> &'a [u8]
+pub fn first_block_16<'a>(a: &'a [u16], b: &'a [u16], edition: u32, work: &mut [u32]) -> &'a [u16]
     ensures part { λ r. ⌜ now r ≡ firstBlock (now (a .entry)) (now (b .entry)) edition (length (now (work .entry))) ⌝ }
     ensures place { λ r. ⌜ r .ptr ≡ startIn (a .entry .ptr) (b .entry .ptr) (firstWhich (now (a .entry)) (now (b .entry)) edition (length (now (work .entry)))) ⌝ }
     ensures worked { λ _. ⌜ now (work .exit) ≡ whichWork (now (a .entry)) (now (b .entry)) edition (now (work .entry)) ⌝ }

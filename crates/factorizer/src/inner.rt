@@ -3,8 +3,9 @@ ghost use mathlib.Core.Path.{_≡_};
 ghost use Prim.Native.Nat.{min, _≤_, _<_, _+_, _-_, _*_};
 ghost use lib.ListN.{length, getD};
 ghost use Rattle.answers.specs.Outcome.{countedView, limit};
-ghost use Rattle.periods.specs.Period.{repetition?, heldPeriod};
+ghost use Rattle.periods.specs.Period.{part, repetition?, heldPeriod};
 ghost use Rattle.periods.specs.Edition.{Turns};
+ghost use Rattle.periods.specs.Width.{wordOf};
 ghost use Rattle.factors.specs.Factorization.{choiceOf};
 ghost use Rattle.factors.specs.Table.{rows, spread, filled};
 ghost use Rattle.factorizer.specs.Piece.{piece?};
@@ -55,7 +56,7 @@ fn lesser(a: usize, b: usize) -> usize
 // window. The part call is lent row 2 and writes the units of the window, which are the same in every
 // edition; what it answers is not needed. Gives the unit of the window, or what is known where the
 // boundary is not reached.
-fn visit(w: &[u8], turns: usize, choice: u32, j: usize, known: usize, work: &mut [u32]) -> usize
+fn visit(w: &[u16], turns: usize, choice: u32, j: usize, known: usize, work: &mut [u32]) -> usize
     requires { ⌜ Workable (now w) (now work) × Turns turns × (j < length (now w)) ⌝ }
     requires { ⌜ Windowed (choiceOf choice) (piece? (repetition? heldPeriod turns) (now w)) (now w) (windowOf turns) j j known (now work) ⌝ }
     ensures { λ r. ⌜ Windowed (choiceOf choice) (piece? (repetition? heldPeriod turns) (now (w .entry))) (now (w .entry)) (windowOf turns) (j + 1) j r (now (work .exit)) ⌝ }
@@ -70,7 +71,7 @@ fn visit(w: &[u8], turns: usize, choice: u32, j: usize, known: usize, work: &mut
     let two = row + row;
     let three = two + row;
     let len = lesser(turns * periods::UNIT_MEMORY, n - j);
-    periods::part(
+    periods::part_16(
         w,
         periods::FIRST_EDITION,
         (j + 1) as u32,
@@ -83,7 +84,7 @@ fn visit(w: &[u8], turns: usize, choice: u32, j: usize, known: usize, work: &mut
 
 // Passes the blocks that end at boundary m, where a window ends, on to the next boundary if a period
 // of the window goes on there: all of them go on, or none.
-fn lengthen(w: &[u8], m: usize, period: usize, work: &mut [u32])
+fn lengthen(w: &[u16], m: usize, period: usize, work: &mut [u32])
     requires { ⌜ Workable (now w) (now work) × (period ≤ m) ⌝ }
     ensures { λ _. ⌜ now (work .exit) ≡ lengthened (now (w .entry)) m period (now (work .entry)) ⌝ }
 {
@@ -104,7 +105,7 @@ fn lengthen(w: &[u8], m: usize, period: usize, work: &mut [u32])
 // boundary that it came from. Boundaries in rising order; one that is not reached offers nothing. From
 // each only a window is read, the turns of the longest unit: a longer block goes on with a period of
 // it. Time: the product of the word's length and the window at most.
-pub fn fill(w: &[u8], turns: usize, choice: u32, work: &mut [u32])
+pub fn fill(w: &[u16], turns: usize, choice: u32, work: &mut [u32])
     requires { ⌜ Workable (now w) (now work) × Turns turns ⌝ }
     ensures { λ _. ⌜ now (work .exit) ≡ filled (choiceOf choice) (piece? (repetition? heldPeriod turns) (now (w .entry))) (length (now (w .entry))) (now (work .entry)) ⌝ }
 {
@@ -161,7 +162,7 @@ pub fn finish(n: usize, ends: &mut [u32], work: &mut [u32]) -> Counted
 }
 
 // The best factorization into repetitions, where the table has its four rows.
-fn settle(w: &[u8], turns: usize, choice: u32, ends: &mut [u32], work: &mut [u32]) -> Counted
+fn settle(w: &[u16], turns: usize, choice: u32, ends: &mut [u32], work: &mut [u32]) -> Counted
     requires { ⌜ Workable (now w) (now work) × Turns turns ⌝ }
     ensures { λ r. ⌜ countedView r ≡ sizeOutcome (wholeCell (repetition? heldPeriod turns) (now (w .entry)) choice) (length (now (ends .entry))) ⌝ }
     ensures { λ _. ⌜ now (ends .exit) ≡ settledEnds (repetition? heldPeriod turns) (now (w .entry)) choice (now (ends .entry)) ⌝ }
@@ -172,7 +173,7 @@ fn settle(w: &[u8], turns: usize, choice: u32, ends: &mut [u32], work: &mut [u32
 }
 
 // The best factorization of a word within the limit into repetitions. Refusals: 8, 9, 2, 7.
-pub fn best(w: &[u8], turns: usize, choice: u32, ends: &mut [u32], work: &mut [u32]) -> Counted
+pub fn best(w: &[u16], turns: usize, choice: u32, ends: &mut [u32], work: &mut [u32]) -> Counted
     requires { ⌜ (length (now w) ≤ limit) × Turns turns ⌝ }
     ensures { λ r. ⌜ countedView r ≡ chosenOutcome (repetition? heldPeriod turns) (now (w .entry)) choice (now (ends .entry)) (now (work .entry)) ⌝ }
     ensures { λ _. ⌜ now (ends .exit) ≡ chosenEnds (repetition? heldPeriod turns) (now (w .entry)) choice (now (ends .entry)) (now (work .entry)) ⌝ }
@@ -187,24 +188,25 @@ pub fn best(w: &[u8], turns: usize, choice: u32, ends: &mut [u32], work: &mut [u
     settle(w, turns, choice, ends, work)
 }
 
-// Whether a part is a block.
-fn is_block(part: &[u8], rule: Rule) -> bool
-    requires { ⌜ Turns (rule .turns) ⌝ }
-    ensures { λ r. ⌜ r ≡ blockBy rule (now (part .entry)) ⌝ }
+// Whether the part of a word of either width between two boundaries is a block.
+fn is_block(bytes: &[u8], codes: &[u16], wide: bool, rule: Rule, start: usize, end: usize) -> bool
+    requires { ⌜ Turns (rule .turns) × (start ≤ end) × (end ≤ length (wordOf wide (now bytes) (now codes))) ⌝ }
+    ensures { λ r. ⌜ r ≡ blockBy rule (part (wordOf wide (now (bytes .entry)) (now (codes .entry))) start end) ⌝ }
 {
     if rule.square {
-        return periods::is_square(part);
+        return periods::either::is_square(bytes, codes, wide, start, end);
     }
-    periods::inner::block_unit(part, rule.turns) != 0
+    periods::either::block_unit(bytes, codes, wide, start, end, rule.turns) != 0
 }
 
-// The judge of a split of a word within the limit: accepted, with the number of blocks, exactly when
-// the ends are those of a factorization. Refusals: for each end in turn 3, 4; then 5.
-pub fn judge(w: &[u8], rule: Rule, ends: &[u32]) -> Counted
-    requires { ⌜ (length (now w) ≤ limit) × Turns (rule .turns) ⌝ }
-    ensures { λ r. ⌜ countedView r ≡ pieceVerdict (blockBy rule) (now (w .entry)) (now (ends .entry)) ⌝ }
+// The judge of a split of a word within the limit, of either width: accepted, with the number of
+// blocks, exactly when the ends are those of a factorization. Refusals: for each end in turn 3, 4;
+// then 5.
+pub fn judge(bytes: &[u8], codes: &[u16], wide: bool, rule: Rule, ends: &[u32]) -> Counted
+    requires { ⌜ (length (wordOf wide (now bytes) (now codes)) ≤ limit) × Turns (rule .turns) ⌝ }
+    ensures { λ r. ⌜ countedView r ≡ pieceVerdict (blockBy rule) (wordOf wide (now (bytes .entry)) (now (codes .entry))) (now (ends .entry)) ⌝ }
 {
-    let n = w.len();
+    let n = periods::either::length(bytes, codes, wide);
     let mut before: usize = 0;
     let mut k: usize = 0;
     while k < ends.len() {
@@ -213,7 +215,7 @@ pub fn judge(w: &[u8], rule: Rule, ends: &[u32]) -> Counted
         if factors::bad_end(before, end, n) {
             return Counted::Refused(Refusal::BadEnd(number));
         }
-        if !is_block(&w[before..end], rule) {
+        if !is_block(bytes, codes, wide, rule, before, end) {
             return Counted::Refused(Refusal::NotBlock(number));
         }
         before = end;

@@ -11,7 +11,7 @@ use crate::LEAF;
 use runs::STRIDE;
 
 // All runs between lo and hi. One level of stack for each halving.
-fn solve(w: &[u8], lo: usize, hi: usize, scratch: &mut [u32], table: &mut [u32])
+fn solve(w: &[u16], lo: usize, hi: usize, scratch: &mut [u32], table: &mut [u32])
     requires { ⌜ (lo ≤ hi) × (hi ≤ length (now w)) × Roomy (now w) (now scratch) ⌝ }
     ensures keeps { λ _. ⌜ Advances (now (w .entry)) (now (scratch .entry)) (now (table .entry)) (now (scratch .exit)) (now (table .exit)) ⌝ }
     ensures solved { λ _. ⌜ Solved (now (w .entry)) lo hi (endsRow (now (w .entry)) (now (scratch .exit))) ⌝ }
@@ -45,7 +45,7 @@ fn starts(s: &mut [u32], n: usize) -> usize
 
 // The number of runs. The last row then has, for each boundary, the number from 0 of the first run
 // after it. Nothing is written to the table.
-fn count(w: &[u8], scratch: &mut [u32], table: &mut [u32]) -> usize
+fn count(w: &[u16], scratch: &mut [u32], table: &mut [u32]) -> usize
     requires { ⌜ Scratch (now w) (now scratch) ⌝ }
     ensures { λ r. ⌜ r ≡ length (runsOf (now (w .entry))) ⌝ }
     ensures { λ _. ⌜ Starts (now (w .entry)) (nextRow (now (w .entry)) (now (scratch .exit))) ⌝ }
@@ -63,7 +63,7 @@ fn count(w: &[u8], scratch: &mut [u32], table: &mut [u32]) -> usize
 }
 
 // Writes the records of all runs.
-fn place(w: &[u8], scratch: &mut [u32], table: &mut [u32])
+fn place(w: &[u16], scratch: &mut [u32], table: &mut [u32])
     requires { ⌜ Scratch (now w) (now scratch) × Starts (now w) (nextRow (now w) (now scratch)) × (stride * length (runsOf (now w)) ≤ length (now table)) ⌝ }
     ensures { λ _. ⌜ now (table .exit) ≡ sets (now (table .entry)) 0 (flat (runsOf (now (w .entry)))) ⌝ }
 {
@@ -77,7 +77,7 @@ fn place(w: &[u8], scratch: &mut [u32], table: &mut [u32])
 
 // Writes the records of all runs if the table has places for all of them, and gives their count. What
 // it leaves in the scratch is not said. Time: n log n, one more logarithm at most on powers.
-pub fn list(w: &[u8], scratch: &mut [u32], table: &mut [u32]) -> usize
+pub fn list(w: &[u16], scratch: &mut [u32], table: &mut [u32]) -> usize
     requires { ⌜ Scratch (now w) (now scratch) ⌝ }
     ensures { λ r. ⌜ r ≡ length (runsOf (now (w .entry))) ⌝ }
     ensures { λ _. ⌜ now (table .exit) ≡ listed (now (w .entry)) (now (table .entry)) ⌝ }

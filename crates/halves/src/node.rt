@@ -8,13 +8,13 @@ ghost use Rattle.answers.specs.Outcome.{limit};
 ghost use Rattle.periods.specs.Period.{part, SmallestPeriod};
 ghost use Rattle.runs.specs.Table.{left?, right?, stride, numbersOf};
 ghost use Rattle.halves.specs.Scratch.{Scratch, prefixRow, suffixRow, endsRow};
-ghost use Rattle.halves.specs.Found.{Periodic, Tables, Ready, New, Tried, Met, Done, Solved};
+ghost use Rattle.halves.specs.Found.{Periodic, Tables, Ready, New, Tried, Met, Solved};
 ghost use Rattle.halves.specs.Kept.{newRecord, Roomy, Halved, Crossed, Advances, SamePrefixes, SameRecords};
 use runs::Record;
 use runs::STRIDE;
 
 // Whether a part with period p after boundary a cannot be lengthened to the left.
-fn left_maximal(w: &[u8], a: usize, p: usize) -> bool
+fn left_maximal(w: &[u16], a: usize, p: usize) -> bool
     requires { ⌜ a + p ≤ length (now w) ⌝ }
     ensures { λ r. ⌜ r ≡ left? (now (w .entry)) a p ⌝ }
 {
@@ -25,7 +25,7 @@ fn left_maximal(w: &[u8], a: usize, p: usize) -> bool
 }
 
 // Nor, up to boundary b, to the right. The word ends at n.
-fn right_maximal(w: &[u8], n: usize, b: usize, p: usize) -> bool
+fn right_maximal(w: &[u16], n: usize, b: usize, p: usize) -> bool
     requires { ⌜ (n ≡ length (now w)) × (p ≤ b) × (b ≤ n) ⌝ }
     ensures { λ r. ⌜ r ≡ right? (now (w .entry)) b p ⌝ }
 {
@@ -37,7 +37,7 @@ fn right_maximal(w: &[u8], n: usize, b: usize, p: usize) -> bool
 
 // Stores the record of the run with period p between the boundaries a and b as number i of the table
 // from 0, as far as the table has the places. Where it has none, no root is looked for.
-fn put_run(w: &[u8], a: usize, b: usize, p: usize, table: &mut [u32], i: usize)
+fn put_run(w: &[u16], a: usize, b: usize, p: usize, table: &mut [u32], i: usize)
     requires { ⌜ (i < 2 ^ 32) × (length (now w) ≤ limit) × (b ≤ length (now w)) × (a + 2 * p ≤ length (now w)) × SmallestPeriod (part (now w) a (a + 2 * p)) p ⌝ }
     ensures { λ _. ⌜ now (table .exit) ≡ sets (now (table .entry)) (stride * i) (numbersOf (newRecord (now (w .entry)) a b p)) ⌝ }
 {
@@ -55,7 +55,7 @@ fn put_run(w: &[u8], a: usize, b: usize, p: usize, table: &mut [u32], i: usize)
 
 // Records the run with period p between the boundaries a and b, which ends later than all that were
 // found after a.
-fn add_run(w: &[u8], a: usize, b: usize, p: usize, scratch: &mut [u32], table: &mut [u32])
+fn add_run(w: &[u16], a: usize, b: usize, p: usize, scratch: &mut [u32], table: &mut [u32])
     requires { ⌜ Roomy (now w) (now scratch) × New (now w) a b p (endsRow (now w) (now scratch)) ⌝ }
     ensures keeps { λ _. ⌜ Advances (now (w .entry)) (now (scratch .entry)) (now (table .entry)) (now (scratch .exit)) (now (table .exit)) ⌝ }
     ensures same { λ _. ⌜ SamePrefixes (now (w .entry)) (now (scratch .entry)) (now (scratch .exit)) ⌝ }
@@ -73,7 +73,7 @@ fn add_run(w: &[u8], a: usize, b: usize, p: usize, scratch: &mut [u32], table: &
 // Records the part with period p from `left` before boundary c to `right` after c + p, if it is a run
 // that was not found yet: then it ends later than all that were found after its start.
 pub(crate) fn attempt(
-    w: &[u8],
+    w: &[u16],
     c: usize,
     p: usize,
     left: usize,
@@ -106,7 +106,15 @@ pub(crate) fn attempt(
 }
 
 // Tries the longest part of period p around the p symbols after boundary m, between lo and hi.
-fn above(w: &[u8], lo: usize, m: usize, hi: usize, p: usize, scratch: &mut [u32], table: &mut [u32])
+fn above(
+    w: &[u16],
+    lo: usize,
+    m: usize,
+    hi: usize,
+    p: usize,
+    scratch: &mut [u32],
+    table: &mut [u32],
+)
     requires { ⌜ Crossed (now w) lo m hi p (now scratch) ⌝ }
     ensures keeps { λ _. ⌜ Advances (now (w .entry)) (now (scratch .entry)) (now (table .entry)) (now (scratch .exit)) (now (table .exit)) ⌝ }
     ensures same { λ _. ⌜ SamePrefixes (now (w .entry)) (now (scratch .entry)) (now (scratch .exit)) ⌝ }
@@ -123,7 +131,15 @@ fn above(w: &[u8], lo: usize, m: usize, hi: usize, p: usize, scratch: &mut [u32]
 }
 
 // The same around the p symbols before it.
-fn below(w: &[u8], lo: usize, m: usize, hi: usize, p: usize, scratch: &mut [u32], table: &mut [u32])
+fn below(
+    w: &[u16],
+    lo: usize,
+    m: usize,
+    hi: usize,
+    p: usize,
+    scratch: &mut [u32],
+    table: &mut [u32],
+)
     requires { ⌜ Crossed (now w) lo m hi p (now scratch) ⌝ }
     ensures keeps { λ _. ⌜ Advances (now (w .entry)) (now (scratch .entry)) (now (table .entry)) (now (scratch .exit)) (now (table .exit)) ⌝ }
     ensures same { λ _. ⌜ SamePrefixes (now (w .entry)) (now (scratch .entry)) (now (scratch .exit)) ⌝ }
@@ -142,7 +158,7 @@ fn below(w: &[u8], lo: usize, m: usize, hi: usize, p: usize, scratch: &mut [u32]
 
 // Fills the rows of common prefixes and suffixes of the part between lo and hi, with what follows
 // boundary m and with what precedes it.
-fn fill_tables(w: &[u8], lo: usize, m: usize, hi: usize, scratch: &mut [u32])
+fn fill_tables(w: &[u16], lo: usize, m: usize, hi: usize, scratch: &mut [u32])
     requires { ⌜ (lo ≤ m) × (m ≤ hi) × (hi ≤ length (now w)) × Scratch (now w) (now scratch) ⌝ }
     ensures tables { λ _. ⌜ Tables (now (w .entry)) lo m hi (prefixRow (now (w .entry)) (now (scratch .exit))) (suffixRow (now (w .entry)) (now (scratch .exit))) ⌝ }
     ensures same { λ _. ⌜ SameRecords (now (w .entry)) (now (scratch .entry)) (now (scratch .exit)) ⌝ }
@@ -155,7 +171,14 @@ fn fill_tables(w: &[u8], lo: usize, m: usize, hi: usize, scratch: &mut [u32])
 }
 
 // The runs between lo and hi that cross boundary m, when those on both sides of it were found.
-pub(crate) fn node(w: &[u8], lo: usize, m: usize, hi: usize, scratch: &mut [u32], table: &mut [u32])
+pub(crate) fn node(
+    w: &[u16],
+    lo: usize,
+    m: usize,
+    hi: usize,
+    scratch: &mut [u32],
+    table: &mut [u32],
+)
     requires { ⌜ Halved (now w) lo m hi (now scratch) ⌝ }
     ensures keeps { λ _. ⌜ Advances (now (w .entry)) (now (scratch .entry)) (now (table .entry)) (now (scratch .exit)) (now (table .exit)) ⌝ }
     ensures solved { λ _. ⌜ Solved (now (w .entry)) lo hi (endsRow (now (w .entry)) (now (scratch .exit))) ⌝ }

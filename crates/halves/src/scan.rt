@@ -7,7 +7,7 @@ ghost use Rattle.halves.specs.Found.{Below, Solved};
 ghost use Rattle.halves.specs.Kept.{Roomy, Advances};
 
 // The runs with period p between lo and hi, when those with smaller periods were found.
-fn scan_period(w: &[u8], lo: usize, hi: usize, p: usize, scratch: &mut [u32], table: &mut [u32])
+fn scan_period(w: &[u16], lo: usize, hi: usize, p: usize, scratch: &mut [u32], table: &mut [u32])
     requires { ⌜ (1 ≤ p) × (lo + p ≤ hi) × (hi ≤ length (now w)) × Below (now w) lo hi p (endsRow (now w) (now scratch)) × Roomy (now w) (now scratch) ⌝ }
     ensures keeps { λ _. ⌜ Advances (now (w .entry)) (now (scratch .entry)) (now (table .entry)) (now (scratch .exit)) (now (table .exit)) ⌝ }
     ensures below { λ _. ⌜ Below (now (w .entry)) lo hi (p + 1) (endsRow (now (w .entry)) (now (scratch .exit))) ⌝ }
@@ -27,7 +27,7 @@ fn scan_period(w: &[u8], lo: usize, hi: usize, p: usize, scratch: &mut [u32], ta
 }
 
 // All runs between lo and hi. Time quadratic in the part.
-pub(crate) fn scan(w: &[u8], lo: usize, hi: usize, scratch: &mut [u32], table: &mut [u32])
+pub(crate) fn scan(w: &[u16], lo: usize, hi: usize, scratch: &mut [u32], table: &mut [u32])
     requires { ⌜ (lo ≤ hi) × (hi ≤ length (now w)) × Roomy (now w) (now scratch) ⌝ }
     ensures keeps { λ _. ⌜ Advances (now (w .entry)) (now (scratch .entry)) (now (table .entry)) (now (scratch .exit)) (now (table .exit)) ⌝ }
     ensures solved { λ _. ⌜ Solved (now (w .entry)) lo hi (endsRow (now (w .entry)) (now (scratch .exit))) ⌝ }

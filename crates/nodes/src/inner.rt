@@ -56,7 +56,7 @@ fn pick(rows: &[u32], count: usize, turns: usize, x: usize, out: &mut [u32]) -> 
 
 // The nodes call once its refusals 1, 12 and 6 are ruled out, over what it is lent for the runs.
 fn nodes_in(
-    w: &[u8],
+    w: &[u16],
     edition: u32,
     x: usize,
     scratch: &mut [u32],
@@ -80,7 +80,7 @@ fn nodes_in(
 }
 
 // The same with arrays of its own for a short word, so that it does not clear those of a long one.
-pub(crate) fn nodes_short(w: &[u8], edition: u32, x: usize, table: &mut [u32]) -> Counted
+pub(crate) fn nodes_short(w: &[u16], edition: u32, x: usize, table: &mut [u32]) -> Counted
     requires { ⌜ Tested (now w) edition x × (length (now w) ≤ shortLimit) ⌝ }
     ensures { λ r. ⌜ countedView r ≡ nodesOutcome (now (w .entry)) edition x (length (now (table .entry))) ⌝ }
     ensures { λ _. ⌜ now (table .exit) ≡ nodesTable (now (w .entry)) edition x (now (table .entry)) ⌝ }
@@ -91,7 +91,7 @@ pub(crate) fn nodes_short(w: &[u8], edition: u32, x: usize, table: &mut [u32]) -
 }
 
 // The same for every word within the limit.
-pub(crate) fn nodes_long(w: &[u8], edition: u32, x: usize, table: &mut [u32]) -> Counted
+pub(crate) fn nodes_long(w: &[u16], edition: u32, x: usize, table: &mut [u32]) -> Counted
     requires { ⌜ Tested (now w) edition x ⌝ }
     ensures { λ r. ⌜ countedView r ≡ nodesOutcome (now (w .entry)) edition x (length (now (table .entry))) ⌝ }
     ensures { λ _. ⌜ now (table .exit) ≡ nodesTable (now (w .entry)) edition x (now (table .entry)) ⌝ }

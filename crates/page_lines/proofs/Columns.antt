@@ -1,6 +1,6 @@
 -- The columns of a line and what stands in them: each column starts where the one before it ends and together they take 60 places; a number below 100,000 is
--- shorter than its column, so it fills it with its spaces; one more number, and one more symbol. By computing the table, and by induction on the lists.
--- Assumes nothing.
+-- shorter than its column, so it fills it with its spaces; one more number, one more symbol, and one digit of a symbol. By computing the table, and by induction
+-- on the lists. Assumes nothing.
 use mathlib.Core.Path.{_≡_, refl, sym, ap, ap₂, _∙_}
 use mathlib.Core.List.{List, [], _∷_, _++_}
 use Prim.Native.Nat.{ℕ, zero, suc, _+_, _-_, _*_, _/_, _%_, _≤_, _<_}
@@ -8,13 +8,13 @@ use native.Mathlib.Omega.{arith}
 use native.Mathlib.Decide.{decLt}
 use native.Mathlib.Nat.{mul-suc, pow-le-pow-right}
 use native.Mathlib.Numerals.{add-one}
-use lib.ListN.{length, getD, take, drop, length-append, length-replicate, drop-of-length-le}
-use lib.Seq.{sets, drop-cons, take-nil}
+use lib.ListN.{length, getD, set, take, drop, length-append, length-replicate, drop-of-length-le}
+use lib.Seq.{sets, set-comm, drop-cons, take-nil}
 use Rattle.laws.proofs.Stores.{sets-append}
 use Rattle.decimals.specs.Decimal.{digitsIn, digits, digitCount, plain}
 use Rattle.decimals.proofs.Claims.{digits-length, digits-in-length, count-one, plain-shortest}
 use Rattle.decimals.proofs.Fields.{at-most-at}
-use Rattle.page_lines.specs.Line.{widths, widthOf, sum, startOf, numberColumns, lineWidth, space, spaces, rightAligned, columns, hexByte, hexDigits, symbolDigits, symbols, greatest, LineNumbers}
+use Rattle.page_lines.specs.Line.{widths, widthOf, sum, startOf, numberColumns, lineWidth, space, spaces, rightAligned, columns, hexByte, hexDigits, symbols, greatest, LineNumbers}
 
 -- ---- the table
 
@@ -124,10 +124,27 @@ line-number-short xs N c h = number-short c (getD xs c 0) h (at-most-at greatest
 
 -- ---- symbols
 
--- a symbol's digits, the highest first
-pub symbol-digits : (x : ℕ) → x < 256 → hexDigits symbolDigits x ≡ hexByte (x / 16) ∷ hexByte (x % 16) ∷ []
+-- a store behind a stretch may come before it
+set-behind : (t : List ℕ) (at : ℕ) (ys : List ℕ) (k y : ℕ) → at + length ys ≤ k → set (sets t at ys) k y ≡ sets (set t k y) at ys
+set-behind t at [] k y h = refl
+set-behind t at (x ∷ xs) k y h = set-behind (set t at x) (suc at) xs k y (omega arith) ∙ ap (λ (l : List ℕ). sets l (suc at) xs) (set-comm t at k x y (λ e. omega arith))
+
+-- of the digits that are left the last is stored first
+pub digit-stored : (t : List ℕ) (at k j x : ℕ) → k ≡ suc j → sets t at (hexDigits k x) ≡ sets (set t (at + j) (hexByte (x % 16))) at (hexDigits j (x / 16))
 unfolding digitsIn
-symbol-digits x h = ap (λ (d : ℕ). hexByte d ∷ hexByte (x % 16) ∷ []) {x = x / 16 % 16} {y = x / 16} (omega arith)
+digit-stored t at k j x e =
+    let high = hexDigits j (x / 16) in
+    let long = digits-in-length 16 hexByte j (x / 16) in
+    ap (λ (n : ℕ). sets t at (hexDigits n x)) e
+    ∙ sets-append t at high (hexByte (x % 16) ∷ [])
+    ∙ ap (λ (n : ℕ). set (sets t at high) (at + n) (hexByte (x % 16))) long
+    ∙ set-behind t at high (at + j) (hexByte (x % 16)) (omega (arith, long))
+
+-- no digit is left
+pub digits-stored : (t : List ℕ) (at k x : ℕ) → k ≤ 0 → sets t at (hexDigits k x) ≡ t
+unfolding digitsIn
+digits-stored t at zero x h = refl
+digits-stored t at (suc k) x h = absurd (omega arith)
 
 pub symbols-length : (k : ℕ) (xs : List ℕ) → length (symbols k xs) ≡ k * length xs
 unfolding symbols

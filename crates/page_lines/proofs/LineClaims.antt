@@ -1,12 +1,12 @@
--- A line is one line of 60 characters and byte 10, which stands nowhere else (line-is-one); each of its columns reads as its number (column-reads). By induction
--- on the lists: columns and symbols fill the places that they have, and digits and spaces are other bytes. Assumes nothing.
+-- A line, of any form that fits, is one line of 60 characters and byte 10, which stands nowhere else (line-is-one); each of its columns reads as its number
+-- (column-reads). By induction on the lists: columns and symbols fill the places that they have, and digits and spaces are other bytes. Assumes nothing.
 use mathlib.Core.Path.{_≡_, refl, sym, ap, _∙_, subst}
 use mathlib.Core.Logic.{_≢_}
 use mathlib.Core.Bool.{Bool, true, not, _&&_}
 use mathlib.Core.List.{List, [], _∷_, _++_, append-assoc}
-use Prim.Native.Nat.{ℕ, zero, suc, _+_, _-_, _/_, _%_, _^_, _≤_, _<_, min}
+use Prim.Native.Nat.{ℕ, zero, suc, _+_, _-_, _*_, _/_, _%_, _^_, _≤_, _<_, min}
 use native.Mathlib.Omega.{arith}
-use native.Mathlib.Nat.{zero-min, min-zero, suc-min-suc}
+use native.Mathlib.Nat.{zero-min, min-zero, suc-min-suc, mul-le-mul-left}
 use borrow.Author.Tests.{eq-eqb}
 use lib.Dec.{T, eqb}
 use lib.ListN.{length, getD, set, take, drop, length-append, length-take, length-replicate}
@@ -16,7 +16,8 @@ use Rattle.decimals.specs.Decimal.{digitsIn, digitCount, plain, digit?, digits?
 use Rattle.decimals.proofs.Claims.{digit-low, digits-are-digits, plain-value}
 use Rattle.decimals.proofs.Fields.{at-most-at}
 use Rattle.writers.proofs.Stores.{stored, left-all, left-less, left-last}
-use Rattle.page_lines.specs.Line.{widths, widthOf, sum, startOf, numberColumns, lineWidth, lineBytes, space, spaces, rightAligned, columns, hexBytes, hexByte, hexDigits, symbolsShown, symbolDigits, symbols, leftAligned, unitColumn, line, NoEnd, OneLine, greatest, LineNumbers}
+use Rattle.page_lines.specs.Line.{widths, widthOf, sum, startOf, numberColumns, lineWidth, lineBytes, space, spaces, rightAligned, columns, hexBytes, hexByte, hexDigits, symbols, leftAligned, unitColumn, byteForm, codeForm, Fits, line, NoEnd, OneLine, greatest, LineNumbers}
+use Rattle.page_lines.specs.declared.Form.{Form}
 use Rattle.page_lines.proofs.Columns.{start-unit, right-length, line-number-short, symbols-length}
 
 -- ---- how long the columns are
@@ -38,18 +39,25 @@ module _ (numbers : List ℕ) (N : LineNumbers numbers) where
   numbers-length : length (columns widths numbers) ≡ startOf numberColumns
   numbers-length = columns-length widths numbers fits (omega arith) ∙ ap startOf (N .0)
 
--- the last column is filled up
-unit-length : (unit : List ℕ) → length (unitColumn symbolDigits symbolsShown unit) ≡ widthOf numberColumns
-unit-length unit =
-    let s = symbols symbolDigits (take symbolsShown unit) in
-    omega (arith, length-append s (spaces (widthOf numberColumns - length s)), length-replicate (widthOf numberColumns - length s) space, symbols-length symbolDigits (take symbolsShown unit), shown-most unit)
-  where
-    shown-most : (l : List ℕ) → length (take symbolsShown l) ≤ symbolsShown
-    shown-most l = omega (arith, length-take symbolsShown l)
+pub byte-form-fits : Fits byteForm
+byte-form-fits = omega arith
 
-pub line-is : (numbers unit : List ℕ) → line numbers unit ≡ columns widths numbers ++ (unitColumn symbolDigits symbolsShown unit ++ (lineEnd ∷ []))
+pub code-form-fits : Fits codeForm
+code-form-fits = omega arith
+
+-- the symbols that are shown fit into the last column
+pub shown-fit : (form : Form) → Fits form → (unit : List ℕ) (k : ℕ) → k ≤ form .shown → form .digits * length (take k unit) ≤ widthOf numberColumns
+shown-fit form F unit k h = omega (arith, mul-le-mul-left {m = length (take k unit)} {n = form .shown} (form .digits) (omega (arith, length-take k unit)))
+
+-- the last column is filled up
+unit-length : (form : Form) → Fits form → (unit : List ℕ) → length (unitColumn (form .digits) (form .shown) unit) ≡ widthOf numberColumns
+unit-length form F unit =
+    let s = symbols (form .digits) (take (form .shown) unit) in
+    omega (arith, length-append s (spaces (widthOf numberColumns - length s)), length-replicate (widthOf numberColumns - length s) space, symbols-length (form .digits) (take (form .shown) unit), shown-fit form F unit (form .shown) (omega arith))
+
+pub line-is : (form : Form) (numbers unit : List ℕ) → line form numbers unit ≡ columns widths numbers ++ (unitColumn (form .digits) (form .shown) unit ++ (lineEnd ∷ []))
 unfolding line
-line-is numbers unit = refl
+line-is form numbers unit = refl
 
 -- ---- stored
 
@@ -59,18 +67,18 @@ take-least (suc k) [] = ap (λ (j : ℕ). take {A = ℕ} j []) (min-zero (suc k)
 take-least (suc k) (x ∷ l) = ap (λ (j : ℕ). take j (x ∷ l)) (suc-min-suc k (length l)) ∙ ap (λ (r : List ℕ). x ∷ r) (take-least k l)
 
 -- the numbers, the symbols and the line's end, one after the other
-pub line-stored : (t u v numbers unit : List ℕ) (at s width k : ℕ) → LineNumbers numbers → u ≡ sets t at (columns widths numbers)
-    → s ≡ startOf numberColumns → width ≡ widthOf numberColumns → k ≡ min symbolsShown (length unit)
-    → v ≡ sets u (at + s) (leftAligned width (symbols symbolDigits (take (k - 0) unit))) → set v (at + lineWidth) lineEnd ≡ sets t at (line numbers unit)
-line-stored t u v numbers unit at s width k N e f g h w =
+pub line-stored : (form : Form) → Fits form → (t u v numbers unit : List ℕ) (at s width k : ℕ) → LineNumbers numbers → u ≡ sets t at (columns widths numbers)
+    → s ≡ startOf numberColumns → width ≡ widthOf numberColumns → k ≡ min (form .shown) (length unit)
+    → v ≡ sets u (at + s) (leftAligned width (symbols (form .digits) (take (k - 0) unit))) → set v (at + lineWidth) lineEnd ≡ sets t at (line form numbers unit)
+line-stored form F t u v numbers unit at s width k N e f g h w =
     let front = columns widths numbers in
-    let last = unitColumn symbolDigits symbolsShown unit in
-    let shown : take (k - 0) unit ≡ take symbolsShown unit = ap (λ (j : ℕ). take j unit) {x = k - 0} {y = k} (omega arith) ∙ ap (λ (j : ℕ). take j unit) h ∙ take-least symbolsShown unit in
+    let last = unitColumn (form .digits) (form .shown) unit in
+    let shown : take (k - 0) unit ≡ take (form .shown) unit = ap (λ (j : ℕ). take j unit) {x = k - 0} {y = k} (omega arith) ∙ ap (λ (j : ℕ). take j unit) h ∙ take-least (form .shown) unit in
     let w′ : v ≡ sets u (at + startOf numberColumns) last = w ∙ rw (f, g, shown) refl in
     let A = stored t at front u (at + startOf numberColumns) (ap (λ (n : ℕ). at + n) (sym (numbers-length numbers N)), e) in
-    let B = stored u (at + startOf numberColumns) last v (at + lineWidth) (omega (arith, unit-length unit, start-unit), w′) in
+    let B = stored u (at + startOf numberColumns) last v (at + lineWidth) (omega (arith, unit-length form F unit, start-unit), w′) in
     let C = stored v (at + lineWidth) (lineEnd ∷ []) (set v (at + lineWidth) lineEnd) (at + lineBytes) (omega arith, refl) in
-    left-last (left-less (lineEnd ∷ []) (left-less (last ++ (lineEnd ∷ [])) (left-all t at (line numbers unit) (front ++ (last ++ (lineEnd ∷ []))) (line-is numbers unit)) A) B) C .bytes
+    left-last (left-less (lineEnd ∷ []) (left-less (last ++ (lineEnd ∷ [])) (left-all t at (line form numbers unit) (front ++ (last ++ (lineEnd ∷ []))) (line-is form numbers unit)) A) B) C .bytes
 
 -- ---- byte 10
 
@@ -124,27 +132,27 @@ unfolding symbols
 unended-symbols k [] = tt
 unended-symbols k (x ∷ xs) = unended-append (hexDigits k x) (symbols k xs) (unended-hex k x) (unended-symbols k xs)
 
-unended-unit : (unit : List ℕ) → NoEnd (unitColumn symbolDigits symbolsShown unit)
-unended-unit unit =
-    let s = symbols symbolDigits (take symbolsShown unit) in
-    unended-append s (spaces (widthOf numberColumns - length s)) (unended-symbols symbolDigits (take symbolsShown unit)) (unended-spaces (widthOf numberColumns - length s))
+unended-unit : (k shown : ℕ) (unit : List ℕ) → NoEnd (unitColumn k shown unit)
+unended-unit k shown unit =
+    let s = symbols k (take shown unit) in
+    unended-append s (spaces (widthOf numberColumns - length s)) (unended-symbols k (take shown unit)) (unended-spaces (widthOf numberColumns - length s))
 
 -- CLAIM: a line is one line of exactly 60 characters and byte 10, which stands nowhere else
-pub line-is-one : (numbers unit : List ℕ) → LineNumbers numbers → OneLine (line numbers unit)
-line-is-one numbers unit N =
+pub line-is-one : (form : Form) → Fits form → (numbers unit : List ℕ) → LineNumbers numbers → OneLine (line form numbers unit)
+line-is-one form F numbers unit N =
     let front = columns widths numbers in
-    let last = unitColumn symbolDigits symbolsShown unit in
+    let last = unitColumn (form .digits) (form .shown) unit in
     record {
       characters = front ++ last;
-      wide = omega (arith, length-append front last, numbers-length numbers N, unit-length unit, start-unit);
-      unended = unended-append front last (unended-columns widths numbers) (unended-unit unit);
-      is = line-is numbers unit ∙ sym (append-assoc front last (lineEnd ∷ []));
+      wide = omega (arith, length-append front last, numbers-length numbers N, unit-length form F unit, start-unit);
+      unended = unended-append front last (unended-columns widths numbers) (unended-unit (form .digits) (form .shown) unit);
+      is = line-is form numbers unit ∙ sym (append-assoc front last (lineEnd ∷ []));
     }
 
 -- so it has 61 bytes
-pub line-length : (numbers unit : List ℕ) → LineNumbers numbers → length (line numbers unit) ≡ lineBytes
-line-length numbers unit N =
-    let L = line-is-one numbers unit N in
+pub line-length : (form : Form) → Fits form → (numbers unit : List ℕ) → LineNumbers numbers → length (line form numbers unit) ≡ lineBytes
+line-length form F numbers unit N =
+    let L = line-is-one form F numbers unit N in
     omega (arith, ap length (L .is), length-append (L .characters) (lineEnd ∷ []), L .wide)
 
 -- ---- reading a column
@@ -173,9 +181,9 @@ column-at (width ∷ ws) (x ∷ xs) rest (suc c) h l m =
     ∙ column-at ws xs rest c (λ d k. h (suc d) (omega arith)) (omega arith) (omega arith)
 
 -- CLAIM: each column of a line reads as its number
-pub column-reads : (numbers unit : List ℕ) → LineNumbers numbers → (c : ℕ) → c < numberColumns
-    → value (field (line numbers unit) (startOf c) (widthOf c)) ≡ getD numbers c 0
-column-reads numbers unit N c h =
-    ap (λ (s : List ℕ). value (field s (startOf c) (widthOf c))) (line-is numbers unit)
-    ∙ ap value (column-at widths numbers (unitColumn symbolDigits symbolsShown unit ++ (lineEnd ∷ [])) c (fits numbers N) (omega arith) (omega arith))
+pub column-reads : (form : Form) (numbers unit : List ℕ) → LineNumbers numbers → (c : ℕ) → c < numberColumns
+    → value (field (line form numbers unit) (startOf c) (widthOf c)) ≡ getD numbers c 0
+column-reads form numbers unit N c h =
+    ap (λ (s : List ℕ). value (field s (startOf c) (widthOf c))) (line-is form numbers unit)
+    ∙ ap value (column-at widths numbers (unitColumn (form .digits) (form .shown) unit ++ (lineEnd ∷ [])) c (fits numbers N) (omega arith) (omega arith))
     ∙ right-reads (widthOf c) (getD numbers c 0) (omega (arith, at-most-at greatest numbers c (N .1) (omega arith)))

@@ -1,10 +1,12 @@
--- The line of a page: "Each block of a split becomes one line of exactly 60 characters and byte 10."
+-- The line of a page: "Each block of a split becomes one line of exactly 60 characters and byte 10." How its last column shows the unit is a form, one for bytes
+-- and one for 16-bit codes.
 use mathlib.Core.Path.{_≡_}
 use mathlib.Core.Logic.{_≢_}
 use mathlib.Core.List.{List, [], _∷_, _++_}
-use Prim.Native.Nat.{ℕ, _+_, _-_}
+use Prim.Native.Nat.{ℕ, _+_, _-_, _*_, _≤_}
 use lib.ListN.{length, getD, take, replicate}
 use Rattle.decimals.specs.Decimal.{digitsIn, plain, lineEnd, AtMost}
+use Rattle.page_lines.specs.declared.Form.{Form}
 
 -- "The column widths are six each for number, first, last, unit, turns, rest and run, then eighteen."
 abbrev pub widths : List ℕ
@@ -59,19 +61,12 @@ hexByte d = getD hexBytes d 0
 abbrev pub hexDigits : ℕ → ℕ → List ℕ
 hexDigits k x = digitsIn 16 hexByte k x
 
--- "the first nine passes of the unit, two lower-case hexadecimal digits each"
-abbrev pub symbolsShown : ℕ
-symbolsShown = 9
-
-abbrev pub symbolDigits : ℕ
-symbolDigits = 2
-
 -- symbols, so many digits each
 unfoldable pub symbols : ℕ → List ℕ → List ℕ
 symbols k [] = []
 symbols k (x ∷ xs) = hexDigits k x ++ symbols k xs
 
--- "spaces after a shorter unit"
+-- "spaces after a shorter unit", "filled up to eighteen with spaces"
 abbrev pub leftAligned : ℕ → List ℕ → List ℕ
 leftAligned width s = s ++ spaces (width - length s)
 
@@ -79,9 +74,22 @@ leftAligned width s = s ++ spaces (width - length s)
 abbrev pub unitColumn : ℕ → ℕ → List ℕ → List ℕ
 unitColumn k shown unit = leftAligned (widthOf numberColumns) (symbols k (take shown unit))
 
+-- "The last column shows the first nine passes of the unit, two lower-case hexadecimal digits each, spaces after a shorter unit."
+abbrev pub byteForm : Form
+byteForm = record { digits = 2; shown = 9 }
+
+-- "A page of 16-bit codes shows the first four passes of the unit, four lower-case hexadecimal digits each, filled up to eighteen with spaces; byte pages keep
+-- their form."
+abbrev pub codeForm : Form
+codeForm = record { digits = 4; shown = 4 }
+
+-- the symbols that are shown have room in the last column
+abbrev pub Fits : Form → Type 0
+Fits form = form .digits * form .shown ≤ widthOf numberColumns
+
 -- the line of the numbers of a block and its unit
-unfoldable pub line : List ℕ → List ℕ → List ℕ
-line numbers unit = columns widths numbers ++ (unitColumn symbolDigits symbolsShown unit ++ (lineEnd ∷ []))
+unfoldable pub line : Form → List ℕ → List ℕ → List ℕ
+line form numbers unit = columns widths numbers ++ (unitColumn (form .digits) (form .shown) unit ++ (lineEnd ∷ []))
 
 -- byte 10 is not among the bytes
 abbrev pub NoEnd : List ℕ → Type 0

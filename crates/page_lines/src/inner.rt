@@ -4,8 +4,9 @@ ghost use Prim.Native.Nat.{_≤_, _<_, _+_, _*_, min};
 ghost use lib.ListN.{length};
 ghost use lib.Seq.{sets};
 ghost use Rattle.decimals.specs.Decimal.{plain};
-ghost use Rattle.page_lines.specs.Line.{widths, widthOf, startOf, columns, line, lineBytes, LineNumbers};
-ghost use Rattle.page_lines.specs.Line.{spaces, rightAligned, leftAligned, hexDigits, symbolsShown, symbolDigits, symbols};
+ghost use Rattle.page_lines.specs.Line.{widths, widthOf, startOf, columns, line, lineBytes, LineNumbers, Fits};
+ghost use Rattle.page_lines.specs.Line.{spaces, rightAligned, leftAligned, hexDigits, symbols};
+use crate::Form;
 use decimals::LINE_END;
 
 // The columns: number, first, last, unit, turns, rest, run, and the symbols of the unit.
@@ -24,11 +25,6 @@ const END: usize = 60;
 const SPACE: u8 = 32;
 
 const HEX: [u8; 16] = *b"0123456789abcdef";
-
-// How many symbols of a unit are shown, and in how many digits each.
-const SHOWN: usize = 9;
-
-const DIGITS: usize = 2;
 
 fn width(c: usize) -> usize
     requires { ⌜ c < length widths ⌝ }
@@ -67,36 +63,41 @@ fn put_number(out: &mut [u8], at: usize, width: usize, x: u32)
     decimals::inner::write(out, at + blank, digits, x);
 }
 
-// Writes the two hexadecimal digits of a symbol.
-fn put_symbol(out: &mut [u8], at: usize, x: u8)
-    requires { ⌜ at + symbolDigits ≤ length (now out) ⌝ }
-    ensures { λ _. ⌜ now (out .exit) ≡ sets (now (out .entry)) at (hexDigits symbolDigits x) ⌝ }
+// Writes the last so many hexadecimal digits of a symbol, from the ones up.
+fn put_symbol(out: &mut [u8], at: usize, digits: usize, x: u16)
+    requires { ⌜ at + digits ≤ length (now out) ⌝ }
+    ensures { λ _. ⌜ now (out .exit) ≡ sets (now (out .entry)) at (hexDigits digits x) ⌝ }
 {
-    out[at] = HEX[(x / 16) as usize];
-    out[at + 1] = HEX[(x % 16) as usize];
+    let mut rest = x;
+    let mut left = digits;
+    while 0 < left {
+        left -= 1;
+        out[at + left] = HEX[(rest % 16) as usize];
+        rest /= 16;
+    }
 }
 
-// How many symbols of a unit of this length are shown.
-fn shown_of(unit: usize) -> usize
-    ensures { λ r. ⌜ r ≡ min symbolsShown unit ⌝ }
+// How many symbols of a unit of this length are shown, if so many are at most.
+fn shown_of(most: usize, unit: usize) -> usize
+    ensures { λ r. ⌜ r ≡ min most unit ⌝ }
 {
-    if unit < SHOWN {
+    if unit < most {
         return unit;
     }
-    SHOWN
+    most
 }
 
-// Writes symbols into a column, and spaces after them.
-fn put_symbols(out: &mut [u8], at: usize, width: usize, shown: &[u8])
-    requires { ⌜ (at + width ≤ length (now out)) × (symbolDigits * length (now shown) ≤ width) ⌝ }
-    ensures { λ _. ⌜ now (out .exit) ≡ sets (now (out .entry)) at (leftAligned width (symbols symbolDigits (now (shown .entry)))) ⌝ }
+// Writes symbols, so many digits each, into a column, and spaces after them.
+fn put_symbols(out: &mut [u8], at: usize, width: usize, digits: usize, shown: &[u16])
+    requires { ⌜ (at + width ≤ length (now out)) × (digits * length (now shown) ≤ width) ⌝ }
+    ensures { λ _. ⌜ now (out .exit) ≡ sets (now (out .entry)) at (leftAligned width (symbols digits (now (shown .entry)))) ⌝ }
 {
     let mut i: usize = 0;
     while i < shown.len() {
-        put_symbol(out, at + DIGITS * i, shown[i]);
+        put_symbol(out, at + digits * i, digits, shown[i]);
         i += 1;
     }
-    fill(out, at + DIGITS * i, width - DIGITS * i);
+    fill(out, at + digits * i, width - digits * i);
 }
 
 // Writes numbers into their columns.
@@ -112,13 +113,19 @@ fn put_numbers(out: &mut [u8], at: usize, numbers: &[u32])
 }
 
 // Writes the line of a block's numbers and its unit from place at on.
-pub fn put_line(out: &mut [u8], at: usize, numbers: &[u32], unit: &[u8])
-    requires { ⌜ (at + lineBytes ≤ length (now out)) × LineNumbers (now numbers) ⌝ }
-    ensures { λ _. ⌜ now (out .exit) ≡ sets (now (out .entry)) at (line (now (numbers .entry)) (now (unit .entry))) ⌝ }
+pub fn put_line(out: &mut [u8], at: usize, form: Form, numbers: &[u32], unit: &[u16])
+    requires { ⌜ (at + lineBytes ≤ length (now out)) × LineNumbers (now numbers) × Fits form ⌝ }
+    ensures { λ _. ⌜ now (out .exit) ≡ sets (now (out .entry)) at (line form (now (numbers .entry)) (now (unit .entry))) ⌝ }
 {
     let zero: usize = 0;
-    let shown = shown_of(unit.len());
+    let shown = shown_of(form.shown, unit.len());
     put_numbers(out, at, numbers);
-    put_symbols(out, at + start(UNIT), width(UNIT), &unit[zero..shown]);
+    put_symbols(
+        out,
+        at + start(UNIT),
+        width(UNIT),
+        form.digits,
+        &unit[zero..shown],
+    );
     out[at + END] = LINE_END;
 }

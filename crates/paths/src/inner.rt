@@ -23,7 +23,7 @@ ghost use Rattle.paths.specs.Walk.{Factored, blockUnits};
 use answers::Counted;
 use answers::Refusal;
 
-fn judge_in(w: &[u8], turns: usize, ends: &[u32], units: &mut [u32]) -> Counted
+fn judge_in(w: &[u16], turns: usize, ends: &[u32], units: &mut [u32]) -> Counted
     requires { ⌜ (length (now w) ≤ limit) × (length (now w) ≤ length (now units)) × Turns turns ⌝ }
     ensures { λ r. ⌜ countedView r ≡ pieceVerdict (repetition? heldPeriod turns) (now (w .entry)) (now (ends .entry)) ⌝ }
 {
@@ -49,7 +49,15 @@ fn judge_in(w: &[u8], turns: usize, ends: &[u32], units: &mut [u32]) -> Counted
     Counted::Count(k as u32)
 }
 
-fn judge_long(w: &[u8], turns: usize, ends: &[u32]) -> Counted
+fn judge_short(w: &[u16], turns: usize, ends: &[u32]) -> Counted
+    requires { ⌜ (length (now w) ≤ shortLimit) × Turns turns ⌝ }
+    ensures { λ r. ⌜ countedView r ≡ pieceVerdict (repetition? heldPeriod turns) (now (w .entry)) (now (ends .entry)) ⌝ }
+{
+    let mut units = [0u32; halves::SHORT];
+    judge_in(w, turns, ends, &mut units)
+}
+
+fn judge_long(w: &[u16], turns: usize, ends: &[u32]) -> Counted
     requires { ⌜ (length (now w) ≤ limit) × Turns turns ⌝ }
     ensures { λ r. ⌜ countedView r ≡ pieceVerdict (repetition? heldPeriod turns) (now (w .entry)) (now (ends .entry)) ⌝ }
 {
@@ -57,24 +65,25 @@ fn judge_long(w: &[u8], turns: usize, ends: &[u32]) -> Counted
     judge_in(w, turns, ends, &mut units)
 }
 
-// The verdict of judge a split, for a long word with an array for the units, so that it takes time
-// linear in the word's length. Refusals: 1, 12; then for each end in turn 3, 4; then 5.
-pub fn judge_blocks(w: &[u8], edition: u32, ends: &[u32]) -> Counted
+// The verdict of judge a split, with an array for the units, so that it takes time linear in the
+// word's length. Refusals: 1, 12; then for each end in turn 3, 4; then 5.
+pub fn judge_blocks(w: &[u16], edition: u32, ends: &[u32]) -> Counted
     ensures { λ r. ⌜ countedView r ≡ splitOutcome (now (w .entry)) edition (now (ends .entry)) ⌝ }
 {
-    if w.len() <= halves::SHORT {
-        return repetitions::judge_split(w, edition, ends);
-    }
     if answers::LIMIT < w.len() {
         return Counted::Refused(Refusal::TooLong);
     }
     if periods::bad_edition(edition) {
         return Counted::Refused(Refusal::BadEdition);
     }
-    judge_long(w, periods::turns(edition), ends)
+    let turns = periods::turns(edition);
+    if w.len() <= halves::SHORT {
+        return judge_short(w, turns, ends);
+    }
+    judge_long(w, turns, ends)
 }
 
-fn units_in(w: &[u8], ends: &[u32], units: &mut [u32], table: &mut [u32])
+fn units_in(w: &[u16], ends: &[u32], units: &mut [u32], table: &mut [u32])
     requires { ⌜ Factored (now w) (now ends) × (length (now ends) ≤ length (now table)) × (length (now w) ≤ length (now units)) ⌝ }
     ensures { λ _. ⌜ now (table .exit) ≡ blockUnits (now (w .entry)) 0 (now (ends .entry)) ++ drop (length (now (ends .entry))) (now (table .entry)) ⌝ }
 {
@@ -88,7 +97,7 @@ fn units_in(w: &[u8], ends: &[u32], units: &mut [u32], table: &mut [u32])
     }
 }
 
-fn units_short(w: &[u8], ends: &[u32], table: &mut [u32])
+fn units_short(w: &[u16], ends: &[u32], table: &mut [u32])
     requires { ⌜ Factored (now w) (now ends) × (length (now ends) ≤ length (now table)) × (length (now w) ≤ shortLimit) ⌝ }
     ensures { λ _. ⌜ now (table .exit) ≡ blockUnits (now (w .entry)) 0 (now (ends .entry)) ++ drop (length (now (ends .entry))) (now (table .entry)) ⌝ }
 {
@@ -96,7 +105,7 @@ fn units_short(w: &[u8], ends: &[u32], table: &mut [u32])
     units_in(w, ends, &mut units, table);
 }
 
-fn units_long(w: &[u8], ends: &[u32], table: &mut [u32])
+fn units_long(w: &[u16], ends: &[u32], table: &mut [u32])
     requires { ⌜ Factored (now w) (now ends) × (length (now ends) ≤ length (now table)) ⌝ }
     ensures { λ _. ⌜ now (table .exit) ≡ blockUnits (now (w .entry)) 0 (now (ends .entry)) ++ drop (length (now (ends .entry))) (now (table .entry)) ⌝ }
 {
@@ -105,7 +114,7 @@ fn units_long(w: &[u8], ends: &[u32], table: &mut [u32])
 }
 
 // Writes the unit of each block of a factorization. Time linear in the word's length.
-pub fn block_units(w: &[u8], ends: &[u32], table: &mut [u32])
+pub fn block_units(w: &[u16], ends: &[u32], table: &mut [u32])
     requires { ⌜ Factored (now w) (now ends) × (length (now ends) ≤ length (now table)) ⌝ }
     ensures { λ _. ⌜ now (table .exit) ≡ blockUnits (now (w .entry)) 0 (now (ends .entry)) ++ drop (length (now (ends .entry))) (now (table .entry)) ⌝ }
 {
@@ -137,7 +146,7 @@ fn note(rows: &[u32], count: usize, before: usize, from: usize, latest: &mut [u3
 }
 
 // Writes the table of all runs and gives their count; clears the scratch, to note them in.
-fn list_runs(w: &[u8], scratch: &mut [u32], rows: &mut [u32]) -> usize
+fn list_runs(w: &[u16], scratch: &mut [u32], rows: &mut [u32]) -> usize
     requires { ⌜ Buffers (now w) (now scratch) (now rows) ⌝ }
     ensures { λ r. ⌜ Runs (now (w .entry)) (now (rows .exit)) r (length (now (scratch .exit))) ⌝ }
     ensures { λ r. ⌜ Noted (now (rows .exit)) r 0 0 (now (scratch .exit)) ⌝ }
@@ -147,7 +156,7 @@ fn list_runs(w: &[u8], scratch: &mut [u32], rows: &mut [u32]) -> usize
     count
 }
 
-fn numbers_in(w: &[u8], ends: &[u32], scratch: &mut [u32], rows: &mut [u32], table: &mut [u32])
+fn numbers_in(w: &[u16], ends: &[u32], scratch: &mut [u32], rows: &mut [u32], table: &mut [u32])
     requires { ⌜ Factored (now w) (now ends) × (length (now ends) ≤ length (now table)) × Buffers (now w) (now scratch) (now rows) ⌝ }
     requires { ⌜ take (length (now ends)) (now table) ≡ blockUnits (now w) 0 (now ends) ⌝ }
     ensures { λ _. ⌜ now (table .exit) ≡ runNumbers (now (w .entry)) 0 (now (ends .entry)) ++ drop (length (now (ends .entry))) (now (table .entry)) ⌝ }
@@ -165,7 +174,7 @@ fn numbers_in(w: &[u8], ends: &[u32], scratch: &mut [u32], rows: &mut [u32], tab
     }
 }
 
-fn numbers_short(w: &[u8], ends: &[u32], table: &mut [u32])
+fn numbers_short(w: &[u16], ends: &[u32], table: &mut [u32])
     requires { ⌜ Factored (now w) (now ends) × (length (now ends) ≤ length (now table)) × (length (now w) ≤ shortLimit) ⌝ }
     requires { ⌜ take (length (now ends)) (now table) ≡ blockUnits (now w) 0 (now ends) ⌝ }
     ensures { λ _. ⌜ now (table .exit) ≡ runNumbers (now (w .entry)) 0 (now (ends .entry)) ++ drop (length (now (ends .entry))) (now (table .entry)) ⌝ }
@@ -175,7 +184,7 @@ fn numbers_short(w: &[u8], ends: &[u32], table: &mut [u32])
     numbers_in(w, ends, &mut scratch, &mut rows, table);
 }
 
-fn numbers_long(w: &[u8], ends: &[u32], table: &mut [u32])
+fn numbers_long(w: &[u16], ends: &[u32], table: &mut [u32])
     requires { ⌜ Factored (now w) (now ends) × (length (now ends) ≤ length (now table)) ⌝ }
     requires { ⌜ take (length (now ends)) (now table) ≡ blockUnits (now w) 0 (now ends) ⌝ }
     ensures { λ _. ⌜ now (table .exit) ≡ runNumbers (now (w .entry)) 0 (now (ends .entry)) ++ drop (length (now (ends .entry))) (now (table .entry)) ⌝ }
@@ -187,7 +196,7 @@ fn numbers_long(w: &[u8], ends: &[u32], table: &mut [u32])
 
 // Puts the number of its run in the place of the unit of each block of a factorization. Time: that
 // of the table of runs, and linear.
-pub fn number_blocks(w: &[u8], ends: &[u32], table: &mut [u32])
+pub fn number_blocks(w: &[u16], ends: &[u32], table: &mut [u32])
     requires { ⌜ Factored (now w) (now ends) × (length (now ends) ≤ length (now table)) ⌝ }
     requires { ⌜ take (length (now ends)) (now table) ≡ blockUnits (now w) 0 (now ends) ⌝ }
     ensures { λ _. ⌜ now (table .exit) ≡ runNumbers (now (w .entry)) 0 (now (ends .entry)) ++ drop (length (now (ends .entry))) (now (table .entry)) ⌝ }
@@ -212,7 +221,7 @@ fn is_segment(latest: &[u32], run: u32, turns: usize, unit: usize, len: usize) -
 }
 
 fn follow_in(
-    w: &[u8],
+    w: &[u16],
     turns: usize,
     numbers: &[u32],
     scratch: &mut [u32],
@@ -247,7 +256,7 @@ fn follow_in(
     Counted::Count(k as u32)
 }
 
-fn follow_short(w: &[u8], turns: usize, numbers: &[u32]) -> Counted
+fn follow_short(w: &[u16], turns: usize, numbers: &[u32]) -> Counted
     requires { ⌜ (length (now w) ≤ shortLimit) × (length (now numbers) % 2 ≡ 0) × Turns turns ⌝ }
     ensures { λ r. ⌜ countedView r ≡ verdict (segment? heldPeriod turns (now (w .entry)) (now (numbers .entry))) (length (now (w .entry))) (endsOfPairs (now (numbers .entry))) ⌝ }
 {
@@ -257,7 +266,7 @@ fn follow_short(w: &[u8], turns: usize, numbers: &[u32]) -> Counted
     follow_in(w, turns, numbers, &mut scratch, &mut rows, &mut units)
 }
 
-fn follow_long(w: &[u8], turns: usize, numbers: &[u32]) -> Counted
+fn follow_long(w: &[u16], turns: usize, numbers: &[u32]) -> Counted
     requires { ⌜ (length (now w) ≤ limit) × (length (now numbers) % 2 ≡ 0) × Turns turns ⌝ }
     ensures { λ r. ⌜ countedView r ≡ verdict (segment? heldPeriod turns (now (w .entry)) (now (numbers .entry))) (length (now (w .entry))) (endsOfPairs (now (numbers .entry))) ⌝ }
 {
@@ -269,7 +278,7 @@ fn follow_long(w: &[u8], turns: usize, numbers: &[u32]) -> Counted
 
 // The verdict on a path with an even count of numbers. The run of each piece comes from the symbols;
 // the number given is only compared with it. Time: that of the table of runs, and linear.
-pub(crate) fn follow(w: &[u8], turns: usize, numbers: &[u32]) -> Counted
+pub(crate) fn follow(w: &[u16], turns: usize, numbers: &[u32]) -> Counted
     requires { ⌜ (length (now w) ≤ limit) × (length (now numbers) % 2 ≡ 0) × Turns turns ⌝ }
     ensures { λ r. ⌜ countedView r ≡ verdict (segment? heldPeriod turns (now (w .entry)) (now (numbers .entry))) (length (now (w .entry))) (endsOfPairs (now (numbers .entry))) ⌝ }
 {

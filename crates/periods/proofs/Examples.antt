@@ -186,3 +186,18 @@ pub no-squares :
     map square? (word-empty ∷ word-a ∷ (97 ∷ 98 ∷ 97 ∷ []) ∷ word-ababa ∷ (97 ∷ 98 ∷ 97 ∷ 97 ∷ 98 ∷ []) ∷ (97 ∷ 98 ∷ 98 ∷ 97 ∷ []) ∷ []) ≡ replicate 6 false
 unfolding square?
 no-squares = refl
+
+-- ---- 16-bit codes: every bit of a code counts
+
+-- codes that differ only above the low byte
+pub unit-of-codes : smallestPeriod (1 ∷ 257 ∷ 1 ∷ 257 ∷ []) ≡ 2
+unfolding smallestPeriod
+unit-of-codes = refl
+
+pub no-square-of-codes : square? (1 ∷ 257 ∷ []) ≡ false
+unfolding square?
+no-square-of-codes = refl
+
+pub part-of-codes : partOutcome (255 ∷ 256 ∷ 257 ∷ 65535 ∷ 255 ∷ 256 ∷ 257 ∷ 65535 ∷ 255 ∷ []) 1 1 9 9 ≡ accepted (4 ∷ 2 ∷ 1 ∷ 1 ∷ [])
+unfolding partOutcome description repetition? smallestPeriod badEdition? turnsOf
+part-of-codes = refl

@@ -5,6 +5,7 @@ pub mod BlockUnit
 pub mod Squares
 pub mod UnitsTable
 pub mod Editions
+pub mod Widths
 pub mod PartClaims
 pub mod Determined
 mod Units

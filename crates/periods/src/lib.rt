@@ -1,10 +1,11 @@
 // Parts of a word, their periods, squares, the editions, and the part call.
 ghost use mathlib.Core.Path.{_≡_};
 ghost use lib.ListN.{length};
-ghost use Rattle.periods.specs.Square.{square?};
 ghost use Rattle.periods.specs.Edition.{badEdition?, turnsOf};
 ghost use Rattle.periods.specs.Part.{partView, partOutcome, partTable, PartMeaning};
 
+mod bytes;
+pub mod either;
 pub mod inner;
 
 use answers::Refusal;
@@ -60,29 +61,6 @@ pub fn turns(edition: u32) -> usize
     SECOND_TURNS
 }
 
-// Whether the part that is lent is a square: a non-empty word twice over. Time linear in the part's
-// length; no stack.
-pub fn is_square(part: &[u8]) -> bool
-    ensures { λ r. ⌜ r ≡ square? (now (part .entry)) ⌝ }
-{
-    let n = part.len();
-    if n == 0 {
-        return false;
-    }
-    if n % TWICE != 0 {
-        return false;
-    }
-    let half = n / TWICE;
-    let mut i: usize = 0;
-    while i < half {
-        if part[i] != part[i + half] {
-            return false;
-        }
-        i += 1;
-    }
-    true
-}
-
 // The part call: unit, turns, rest, and block or not, of the symbols at the positions first to
 // last, counted from 1; the edition decides about the block alone. Writes the unit of every leading
 // part of that part but the empty one, place i for its first i symbols, and keeps the other places;
@@ -93,34 +71,16 @@ pub fn part(w: &[u8], edition: u32, first: u32, last: u32, units: &mut [u32]) ->
     ensures written { λ r. ⌜ now (units .exit) ≡ partTable (now (w .entry)) edition first last (now (units .entry)) ⌝ }
     ensures meaning { λ r. ⌜ PartMeaning (now (w .entry)) edition first last (now (units .entry)) (partView r) (now (units .exit)) ⌝ }
 {
-    let n = w.len();
-    if answers::LIMIT < n {
-        return PartAnswer::Refused(Refusal::TooLong);
-    }
-    if bad_edition(edition) {
-        return PartAnswer::Refused(Refusal::BadEdition);
-    }
-    if first < 1 {
-        return PartAnswer::Refused(Refusal::BadPosition);
-    }
-    let end = last as usize;
-    if n < end {
-        return PartAnswer::Refused(Refusal::BadPosition);
-    }
-    if last < first {
-        return PartAnswer::Refused(Refusal::BadPosition);
-    }
-    let start = first as usize - 1;
-    let len = end - start;
-    if units.len() < len {
-        return PartAnswer::Refused(Refusal::TooFewPlaces);
-    }
-    let unit = inner::units(&w[start..end], units);
-    let turns = turns(edition);
-    PartAnswer::Described(Description {
-        period: unit as u32,
-        exponent: (len / unit) as u32,
-        remainder: (len % unit) as u32,
-        repetition: inner::is_block_of(turns, len, unit),
-    })
+    let none = [0u16; 0];
+    either::part(w, &none, false, edition, first, last, units)
+}
+
+// The same of a word of 16-bit symbols.
+pub fn part_16(w: &[u16], edition: u32, first: u32, last: u32, units: &mut [u32]) -> PartAnswer
+    ensures answer { λ r. ⌜ partView r ≡ partOutcome (now (w .entry)) edition first last (length (now (units .entry))) ⌝ }
+    ensures written { λ r. ⌜ now (units .exit) ≡ partTable (now (w .entry)) edition first last (now (units .entry)) ⌝ }
+    ensures meaning { λ r. ⌜ PartMeaning (now (w .entry)) edition first last (now (units .entry)) (partView r) (now (units .exit)) ⌝ }
+{
+    let none = [0u8; 0];
+    either::part(&none, w, true, edition, first, last, units)
 }

@@ -6,7 +6,7 @@ ghost use Rattle.prefixes.specs.Match.{view, Agree, Match, Matched};
 ghost use Rattle.prefixes.specs.Filled.{headOf, Filled, Fillable};
 
 // Symbol i of the part, or of its mirror.
-fn symbol(part: &[u8], mirrored: bool, i: usize) -> u8
+fn symbol(part: &[u16], mirrored: bool, i: usize) -> u16
     requires { ⌜ i < length (now part) ⌝ }
     ensures { λ r. ⌜ r ≡ view mirrored (now (part .entry)) i ⌝ }
 {
@@ -17,7 +17,7 @@ fn symbol(part: &[u8], mirrored: bool, i: usize) -> u8
 }
 
 // Lengthens a common prefix of what stands from i on and from mid on as far as it goes.
-fn extend(part: &[u8], mirrored: bool, mid: usize, i: usize, from: usize) -> usize
+fn extend(part: &[u16], mirrored: bool, mid: usize, i: usize, from: usize) -> usize
     requires { ⌜ Agree (view mirrored (now part)) (length (now part)) mid i from ⌝ }
     ensures { λ r. ⌜ Match (view mirrored (now (part .entry))) (length (now (part .entry))) mid i r ⌝ }
 {
@@ -54,7 +54,7 @@ fn head(t: &[u32], mid: usize, i: usize, l: usize, r: usize) -> usize
 // Fills the places from `from` up to `to`, either those after mid, or those before it when those
 // after it are there. The box is the prefix found that reaches furthest, so that each symbol is
 // passed once.
-fn fill(part: &[u8], mirrored: bool, mid: usize, from: usize, to: usize, t: &mut [u32])
+fn fill(part: &[u16], mirrored: bool, mid: usize, from: usize, to: usize, t: &mut [u32])
     requires { ⌜ Fillable mirrored (now part) mid from to (now t) ⌝ }
     ensures { λ _. ⌜ Filled (view mirrored (now (part .entry))) (length (now (part .entry))) mid from to (now (t .exit)) ⌝ }
     ensures { λ _. ⌜ drop (length (now (part .entry)) + 1) (now (t .exit)) ≡ drop (length (now (part .entry)) + 1) (now (t .entry)) ⌝ }
@@ -78,7 +78,7 @@ fn fill(part: &[u8], mirrored: bool, mid: usize, from: usize, to: usize, t: &mut
 // Place j of the table becomes the length of the longest common prefix of what stands from j on and
 // from mid on, for each j from 0 to the part's length; the places past it stay as they are. Time
 // linear in the part.
-pub fn matches(part: &[u8], mirrored: bool, mid: usize, t: &mut [u32])
+pub fn matches(part: &[u16], mirrored: bool, mid: usize, t: &mut [u32])
     requires { ⌜ (mid ≤ length (now part)) × (length (now part) < length (now t)) × (length (now part) < 2 ^ 32) ⌝ }
     ensures { λ _. ⌜ Matched (view mirrored (now (part .entry))) (length (now (part .entry))) mid (now (t .exit)) ⌝ }
     ensures { λ _. ⌜ drop (length (now (part .entry)) + 1) (now (t .exit)) ≡ drop (length (now (part .entry)) + 1) (now (t .entry)) ⌝ }

@@ -1,8 +1,12 @@
-// Repetition factorizations: best split, judge a split.
+// Repetition factorizations: best split on 16-bit symbols, of which `bytes` has the form on bytes, and
+// judge a split.
 ghost use mathlib.Core.Path.{_≡_};
 ghost use Rattle.answers.specs.Outcome.{countedView};
 ghost use Rattle.repetitions.specs.BestSplit.{bestOutcome, bestEndsTable, bestWork, BestMeaning};
 ghost use Rattle.repetitions.specs.Judge.{splitOutcome, SplitMeaning};
+
+mod inner;
+
 use answers::Counted;
 use answers::Refusal;
 
@@ -12,8 +16,8 @@ use answers::Refusal;
 // with n/2 places for the ends of n symbols 7 never comes. Time: at most the product of the word's
 // length and a window, which has 512 symbols in edition 1 and 768 in edition 2. 350 bytes of stack,
 // and 48 a block.
-pub fn best_split(
-    w: &[u8],
+pub fn best_split_16(
+    w: &[u16],
     edition: u32,
     choice: u32,
     ends: &mut [u32],
@@ -40,11 +44,15 @@ pub fn judge_split(w: &[u8], edition: u32, ends: &[u32]) -> Counted
     ensures answer { λ r. ⌜ countedView r ≡ splitOutcome (now (w .entry)) edition (now (ends .entry)) ⌝ }
     ensures meaning { λ r. ⌜ SplitMeaning (now (w .entry)) edition (now (ends .entry)) (countedView r) ⌝ }
 {
-    if answers::LIMIT < w.len() {
-        return Counted::Refused(Refusal::TooLong);
-    }
-    if periods::bad_edition(edition) {
-        return Counted::Refused(Refusal::BadEdition);
-    }
-    factorizer::inner::judge(w, factorizer::rule_of(edition), ends)
+    let none = [0u16; 0];
+    inner::judge(w, &none, false, edition, ends)
+}
+
+// The same of a word of 16-bit symbols.
+pub fn judge_split_16(w: &[u16], edition: u32, ends: &[u32]) -> Counted
+    ensures answer { λ r. ⌜ countedView r ≡ splitOutcome (now (w .entry)) edition (now (ends .entry)) ⌝ }
+    ensures meaning { λ r. ⌜ SplitMeaning (now (w .entry)) edition (now (ends .entry)) (countedView r) ⌝ }
+{
+    let none = [0u8; 0];
+    inner::judge(&none, w, true, edition, ends)
 }

@@ -40,7 +40,7 @@ fn run_lines(table: &[u32], count: usize, out: &mut [u8], at: usize) -> usize
 // Stores the line of block number k + 1, between boundaries before and end. The first count of the
 // records are those of the runs.
 fn block_line(
-    w: &[u8],
+    w: &[u16],
     k: usize,
     before: usize,
     end: usize,
@@ -63,7 +63,7 @@ fn block_line(
 
 // Stores the lines of the blocks with these ends.
 fn block_lines(
-    w: &[u8],
+    w: &[u16],
     ends: &[u32],
     runs: [Record; RECORDS],
     count: usize,
@@ -89,7 +89,7 @@ fn block_lines(
 
 // Stores the lines of the best split of a choice: its name and size, and its blocks.
 fn split_lines(
-    w: &[u8],
+    w: &[u16],
     choice: u32,
     name: &[u8],
     runs: [Record; RECORDS],
@@ -104,7 +104,7 @@ fn split_lines(
 {
     let mut ends = [0u32; MOST_BLOCKS];
     let mut work = [0u32; factors::ROWS * (PROGRAM_LIMIT + 1)];
-    let best = repetitions::best_split(w, EDITION, choice, &mut ends, &mut work);
+    let best = repetitions::best_split_16(w, EDITION, choice, &mut ends, &mut work);
     match best {
         Counted::Refused(_) => {
             let next = writers::inner::put_text(out, at, name);
@@ -121,7 +121,7 @@ fn split_lines(
 }
 
 // Stores the whole text of a word that the program holds, from the table of its runs.
-pub(crate) fn write_text(w: &[u8], table: &[u32], count: usize, out: &mut [u8]) -> usize
+fn write_text(w: &[u16], table: &[u32], count: usize, out: &mut [u8]) -> usize
     requires { ⌜ RunsListed (now w) (now table) count ⌝ }
     ensures { λ r. ⌜ r ≡ length (text (now (w .entry))) ⌝ }
     ensures { λ _. ⌜ now (out .exit) ≡ sets (now (out .entry)) 0 (text (now (w .entry))) ⌝ }
@@ -133,4 +133,16 @@ pub(crate) fn write_text(w: &[u8], table: &[u32], count: usize, out: &mut [u8]) 
     let fewest_from = run_lines(table, count, out, runs_from);
     let most_from = split_lines(w, factors::FEWEST, b"fewest", runs, count, out, fewest_from);
     split_lines(w, factors::MOST, b"most", runs, count, out, most_from)
+}
+
+// Finds the runs of a word that the program holds, and stores its whole text.
+pub(crate) fn write_all(w: &[u16], out: &mut [u8]) -> usize
+    requires { ⌜ length (now w) ≤ programLimit ⌝ }
+    ensures { λ r. ⌜ r ≡ length (text (now (w .entry))) ⌝ }
+    ensures { λ _. ⌜ now (out .exit) ≡ sets (now (out .entry)) 0 (text (now (w .entry))) ⌝ }
+{
+    let mut scratch = [0u32; halves::ROWS * (PROGRAM_LIMIT + 1)];
+    let mut table = [0u32; runs::STRIDE * RECORDS];
+    let count = halves::inner::list(w, &mut scratch, &mut table);
+    write_text(w, &table, count, out)
 }

@@ -20,8 +20,8 @@ pub const LONGEST_REPORT: usize = 145462;
 const REFUSED: [u8; 10] = *b"refused,1\n";
 
 // The report of a word, the text that the bench program prints: stores it as far as there are bytes,
-// and gives the count of its bytes. Time: quadratic in the word's length at most; under 124 KiB of
-// stack, 16 of them for the finder of runs.
+// and gives the count of its bytes. The word is widened once. Time: quadratic in the word's length
+// at most; under 124 KiB of stack, 16 of them for the finder of runs.
 pub fn report(w: &[u8], out: &mut [u8]) -> usize
     ensures answer { λ r. ⌜ r ≡ length (text (now (w .entry))) ⌝ }
     ensures written { λ r. ⌜ now (out .exit) ≡ sets (now (out .entry)) 0 (text (now (w .entry))) ⌝ }
@@ -30,8 +30,8 @@ pub fn report(w: &[u8], out: &mut [u8]) -> usize
     if PROGRAM_LIMIT < w.len() {
         return writers::inner::put_text(out, 0, &REFUSED);
     }
-    let mut scratch = [0u32; halves::ROWS * (PROGRAM_LIMIT + 1)];
-    let mut table = [0u32; runs::STRIDE * finder::RECORDS];
-    let count = halves::inner::list(w, &mut scratch, &mut table);
-    inner::write_text(w, &table, count, out)
+    let n = w.len();
+    let mut wide = [0u16; PROGRAM_LIMIT];
+    widening::widen(w, &mut wide);
+    inner::write_all(&wide[0..n], out)
 }

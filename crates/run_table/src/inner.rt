@@ -10,7 +10,7 @@ use answers::Refusal;
 use runs::STRIDE;
 
 // The runs call of a word within the limit, over what it is lent for the finder.
-fn runs_in(w: &[u8], scratch: &mut [u32], table: &mut [u32]) -> Counted
+fn runs_in(w: &[u16], scratch: &mut [u32], table: &mut [u32]) -> Counted
     requires { ⌜ Scratch (now w) (now scratch) ⌝ }
     ensures { λ r. ⌜ countedView r ≡ runsOutcome (now (w .entry)) (length (now (table .entry))) ⌝ }
     ensures { λ _. ⌜ now (table .exit) ≡ runsTable (now (w .entry)) (now (table .entry)) ⌝ }
@@ -23,7 +23,7 @@ fn runs_in(w: &[u8], scratch: &mut [u32], table: &mut [u32]) -> Counted
 }
 
 // The same with an array of its own for a short word, so that it does not clear that of a long one.
-pub(crate) fn runs_short(w: &[u8], table: &mut [u32]) -> Counted
+pub(crate) fn runs_short(w: &[u16], table: &mut [u32]) -> Counted
     requires { ⌜ length (now w) ≤ shortLimit ⌝ }
     ensures { λ r. ⌜ countedView r ≡ runsOutcome (now (w .entry)) (length (now (table .entry))) ⌝ }
     ensures { λ _. ⌜ now (table .exit) ≡ runsTable (now (w .entry)) (now (table .entry)) ⌝ }
@@ -33,7 +33,7 @@ pub(crate) fn runs_short(w: &[u8], table: &mut [u32]) -> Counted
 }
 
 // The same for every word within the limit.
-pub(crate) fn runs_long(w: &[u8], table: &mut [u32]) -> Counted
+pub(crate) fn runs_long(w: &[u16], table: &mut [u32]) -> Counted
     requires { ⌜ length (now w) ≤ limit ⌝ }
     ensures { λ r. ⌜ countedView r ≡ runsOutcome (now (w .entry)) (length (now (table .entry))) ⌝ }
     ensures { λ _. ⌜ now (table .exit) ≡ runsTable (now (w .entry)) (now (table .entry)) ⌝ }

@@ -24,6 +24,15 @@ pub runs-of-high-codes : flat (runsOf (200 ∷ 100 ∷ 200 ∷ 100 ∷ [])) ≡ 
 unfolding runsOf rowsBefore rowsAt runBetween run? rootOf leastStart repetition? smallestPeriod
 runs-of-high-codes = refl
 
+-- "roots ordered by code": of 16-bit codes the high byte decides first, and no code is negative
+pub runs-by-the-high-byte : flat (runsOf (256 ∷ 1 ∷ 256 ∷ 1 ∷ [])) ≡ 1 ∷ 4 ∷ 2 ∷ 2 ∷ []
+unfolding runsOf rowsBefore rowsAt runBetween run? rootOf leastStart repetition? smallestPeriod
+runs-by-the-high-byte = refl
+
+pub root-without-sign : rootOf (65535 ∷ 32768 ∷ 1 ∷ 65535 ∷ 32768 ∷ 1 ∷ []) 0 3 ≡ 3
+unfolding rootOf leastStart
+root-without-sign = refl
+
 -- in c b a b, twice wound, the root is the third pass
 pub root-late : rootOf (99 ∷ 98 ∷ 97 ∷ 98 ∷ 99 ∷ 98 ∷ 97 ∷ 98 ∷ []) 0 4 ≡ 3
 unfolding rootOf leastStart

@@ -76,7 +76,7 @@ pub fn block_numbers(
 // best can be it; from both on, `same` symbols agree. Where the next two symbols differ, the start
 // with the greater one comes later, and so do the next `same` starts beside those as far after the
 // other: all of them are passed over. At most 3p comparisons.
-pub fn root(w: &[u8], a: usize, p: usize) -> usize
+pub fn root(w: &[u16], a: usize, p: usize) -> usize
     requires { ⌜ (length (now w) ≤ limit) × (a + 2 * p ≤ length (now w)) × SmallestPeriod (part (now w) a (a + 2 * p)) p ⌝ }
     ensures { λ r. ⌜ r ≡ rootOf (now (w .entry)) a p ⌝ }
 {

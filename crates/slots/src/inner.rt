@@ -97,7 +97,7 @@ fn take(
 
 // Takes boundary e: every run in the list that is not over at e, and then the best start of all. Gives
 // how many runs stay in the list.
-fn visit(w: &[u8], runs: &[u32], choice: u32, e: usize, lives: usize, work: &mut [u32]) -> usize
+fn visit(w: &[u16], runs: &[u32], choice: u32, e: usize, lives: usize, work: &mut [u32]) -> usize
     requires { ⌜ Workable (now w) (now work) × RunsIn (now w) (now runs) × (1 ≤ e) × (e ≤ length (now w)) × (lives ≤ length (now w)) ⌝ }
     requires { ⌜ Ready (choiceOf choice) (now w) (now runs) (e + 1) e lives (now work) ⌝ }
     ensures { λ r. ⌜ (r ≤ lives) × Ready (choiceOf choice) (now (w .entry)) (now (runs .entry)) (e + 1) (e + 1) r (now (work .exit)) ⌝ }
@@ -158,7 +158,7 @@ fn admit(
 // Fills the working table: the best size of each prefix length, and the previous boundary that it came
 // from. Boundaries in rising order; each takes the runs that it lies in. Time: a step for each run and
 // each boundary in it.
-pub fn fill(w: &[u8], runs: &[u32], count: usize, choice: u32, work: &mut [u32])
+pub fn fill(w: &[u16], runs: &[u32], count: usize, choice: u32, work: &mut [u32])
     requires { ⌜ Workable (now w) (now work) × RunsIn (now w) (now runs) × (count ≡ length (runsOf (now w))) ⌝ }
     ensures { λ _. ⌜ now (work .exit) ≡ filled (choiceOf choice) (piece? square? (now (w .entry))) (length (now (w .entry))) (now (work .entry)) ⌝ }
 {

@@ -1,4 +1,5 @@
-// Square factorizations: best squares, judge squares.
+// Square factorizations: best squares on 16-bit symbols, of which `bytes` has the form on bytes, and
+// judge squares.
 ghost use mathlib.Core.Path.{_≡_};
 ghost use Rattle.answers.specs.Outcome.{countedView};
 ghost use Rattle.squares.specs.BestSquares.{squaresOutcome, squaresEnds, squaresWork, SquaresMeaning};
@@ -15,7 +16,7 @@ use answers::Refusal;
 // each prefix length. Refusals: 1, 8, 9, 2, 7; with n/2 places for the ends of n symbols 7 never
 // comes. Time: that of the runs, and a step for each run and each boundary in it. 67 KiB of stack, and
 // 48 bytes a square.
-pub fn best_squares(w: &[u8], choice: u32, ends: &mut [u32], work: &mut [u32]) -> Counted
+pub fn best_squares_16(w: &[u16], choice: u32, ends: &mut [u32], work: &mut [u32]) -> Counted
     ensures answer { λ r. ⌜ countedView r ≡ squaresOutcome (now (w .entry)) choice (now (ends .entry)) (now (work .entry)) ⌝ }
     ensures written { λ r. ⌜ now (ends .exit) ≡ squaresEnds (now (w .entry)) choice (now (ends .entry)) (now (work .entry)) ⌝ }
     ensures worked { λ r. ⌜ now (work .exit) ≡ squaresWork (now (w .entry)) choice (now (work .entry)) ⌝ }
@@ -40,8 +41,15 @@ pub fn judge_squares(w: &[u8], ends: &[u32]) -> Counted
     ensures answer { λ r. ⌜ countedView r ≡ squaresJudgedOutcome (now (w .entry)) (now (ends .entry)) ⌝ }
     ensures meaning { λ r. ⌜ SquaresJudgedMeaning (now (w .entry)) (now (ends .entry)) (countedView r) ⌝ }
 {
-    if answers::LIMIT < w.len() {
-        return Counted::Refused(Refusal::TooLong);
-    }
-    factorizer::inner::judge(w, factorizer::square_rule(), ends)
+    let none = [0u16; 0];
+    inner::judge(w, &none, false, ends)
+}
+
+// The same of a word of 16-bit symbols.
+pub fn judge_squares_16(w: &[u16], ends: &[u32]) -> Counted
+    ensures answer { λ r. ⌜ countedView r ≡ squaresJudgedOutcome (now (w .entry)) (now (ends .entry)) ⌝ }
+    ensures meaning { λ r. ⌜ SquaresJudgedMeaning (now (w .entry)) (now (ends .entry)) (countedView r) ⌝ }
+{
+    let none = [0u8; 0];
+    inner::judge(&none, w, true, ends)
 }

@@ -145,7 +145,7 @@ fn lent<'a>(row: &[u8], a: &'a [u8], b: &'a [u8], edition: u32, places: u32) {
 fn which(name: &[u8], a: &[u8], b: &[u8], edition: u32, work: &mut [u32]) {
     text(b"which,");
     text(name);
-    show::outcome(comparison::which_first(a, b, edition, work));
+    show::outcome(bytes::which_first(a, b, edition, work));
     show::numbers(COMMA, work);
     text(b"\n");
 }
@@ -154,7 +154,7 @@ fn block<'a>(name: &[u8], a: &'a [u8], b: &'a [u8], edition: u32, work: &mut [u3
     text(b"block,");
     text(name);
     text(b",");
-    text(comparison::first_block(a, b, edition, work));
+    text(bytes::first_block(a, b, edition, work));
     show::numbers(COMMA, work);
     text(b"\n");
 }
@@ -163,11 +163,11 @@ fn block<'a>(name: &[u8], a: &'a [u8], b: &'a [u8], edition: u32, work: &mut [u3
 fn brief<'a>(name: &[u8], a: &'a [u8], b: &'a [u8], edition: u32, work: &mut [u32]) {
     text(b"which,");
     text(name);
-    show::outcome(comparison::which_first(a, b, edition, work));
+    show::outcome(bytes::which_first(a, b, edition, work));
     last_places(work);
     text(b"block,");
     text(name);
-    let part = comparison::first_block(a, b, edition, work);
+    let part = bytes::first_block(a, b, edition, work);
     show::field((part.len() % 65536) as u32);
     last_places(work);
 }

@@ -189,7 +189,7 @@ fn lent(w: &[u8], choice: u32, places: u32, space: u32) {
 }
 
 fn answered(w: &[u8], choice: u32, ends: &mut [u32], work: &mut [u32]) {
-    outcome(squares::best_squares(w, choice, ends, work));
+    outcome(bytes::best_squares(w, choice, ends, work));
     list(b" ends", ends);
     list(b" work", work);
 }
@@ -226,7 +226,7 @@ fn brief(name: &[u8], w: &[u8], choice: u32, ends: &mut [u32], work: &mut [u32])
     text(b"best,");
     text(name);
     field(choice);
-    outcome(squares::best_squares(w, choice, ends, work));
+    outcome(bytes::best_squares(w, choice, ends, work));
     part(b" ends", ends, 0, 3);
     part(b" last ends", ends, 2046, 2049);
     part(b" sizes", work, 4092, 4098);

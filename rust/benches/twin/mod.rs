@@ -16,7 +16,24 @@ const NONE: u32 = u32::MAX;
 const STRIDE: usize = 4;
 const LINE: usize = 61;
 const COLUMN: usize = 6;
-const SHOWN: usize = 9;
+/// The characters of a line that show symbols.
+const SYMBOLS: usize = 18;
+
+/// A symbol. A page shows so many of a unit, in so many digits each.
+pub trait Code: Copy + Ord + Into<u32> {
+    const SHOWN: usize;
+    const DIGITS: usize;
+}
+
+impl Code for u8 {
+    const SHOWN: usize = 9;
+    const DIGITS: usize = 2;
+}
+
+impl Code for u16 {
+    const SHOWN: usize = 4;
+    const DIGITS: usize = 4;
+}
 
 /// The whole turns that a block of an edition has at least.
 fn turns_of(edition: u32) -> Answer<usize> {
@@ -34,7 +51,7 @@ fn is_block_of(turns: usize, len: usize, unit: usize) -> bool {
 
 /// The unit of a part if it is a block, else 0. No unit is tried that a block of the length cannot
 /// have.
-fn block_unit(part: &[u8], turns: usize) -> usize {
+fn block_unit<C: Code>(part: &[C], turns: usize) -> usize {
     let n = part.len();
     let mut p = 0;
     'outer: loop {
@@ -53,7 +70,7 @@ fn block_unit(part: &[u8], turns: usize) -> usize {
     }
 }
 
-fn units(part: &[u8], table: &mut [u32]) {
+fn units<C: Code>(part: &[C], table: &mut [u32]) {
     let n = part.len();
     if n == 0 {
         return;
@@ -77,7 +94,13 @@ fn units(part: &[u8], table: &mut [u32]) {
     }
 }
 
-pub fn part(w: &[u8], edition: u32, first: u32, last: u32, table: &mut [u32]) -> Answer<[u32; 4]> {
+pub fn part<C: Code>(
+    w: &[C],
+    edition: u32,
+    first: u32,
+    last: u32,
+    table: &mut [u32],
+) -> Answer<[u32; 4]> {
     let n = w.len();
     if LIMIT < n {
         return Err((1, 0));
@@ -111,7 +134,7 @@ fn store(table: &mut [u32], at: usize, value: u32) {
 /// The root of a run after boundary a, of unit p. Of the starts below j only i is left, and from i and
 /// from j on k symbols agree. They are fewer than p, since the unit is primitive, and so lie in the
 /// two turns that a run has.
-fn root(w: &[u8], a: usize, p: usize) -> usize {
+fn root<C: Code>(w: &[C], a: usize, p: usize) -> usize {
     let (mut i, mut j, mut k) = (0, 1, 0);
     while j < p {
         let (x, y) = (w[a + i + k], w[a + j + k]);
@@ -132,7 +155,7 @@ fn root(w: &[u8], a: usize, p: usize) -> usize {
 }
 
 /// How far what stands at each place of the part, or of its mirror, agrees with what stands at mid.
-fn matches(part: &[u8], mirrored: bool, mid: usize, table: &mut [u32]) {
+fn matches<C: Code>(part: &[C], mirrored: bool, mid: usize, table: &mut [u32]) {
     let len = part.len();
     let symbol = |i: usize| if mirrored { part[len - 1 - i] } else { part[i] };
     for (from, to) in [(mid + 1, len + 1), (0, mid)] {
@@ -180,9 +203,9 @@ impl Rows<'_> {
 
     /// Records the part of period p from left before c to right after c + p, if it is a run that
     /// was not found yet.
-    fn attempt(
+    fn attempt<C: Code>(
         &mut self,
-        w: &[u8],
+        w: &[C],
         c: usize,
         p: usize,
         left: usize,
@@ -209,7 +232,7 @@ impl Rows<'_> {
     }
 
     /// The runs between lo and hi that cross m.
-    fn cross(&mut self, w: &[u8], lo: usize, m: usize, hi: usize, table: &mut [u32]) {
+    fn cross<C: Code>(&mut self, w: &[C], lo: usize, m: usize, hi: usize, table: &mut [u32]) {
         let (mid, rest) = (m - lo, hi - m);
         matches(&w[lo..hi], false, mid, self.prefixes);
         matches(&w[lo..hi], true, rest, self.suffixes);
@@ -227,7 +250,7 @@ impl Rows<'_> {
 
     /// All runs of a short part: for each period, every stretch that agrees with what stands a
     /// period later.
-    fn scan(&mut self, w: &[u8], lo: usize, hi: usize, table: &mut [u32]) {
+    fn scan<C: Code>(&mut self, w: &[C], lo: usize, hi: usize, table: &mut [u32]) {
         for p in 1..=(hi - lo) / 2 {
             let mut start = lo;
             for at in lo..hi - p {
@@ -240,7 +263,7 @@ impl Rows<'_> {
         }
     }
 
-    fn solve(&mut self, w: &[u8], lo: usize, hi: usize, table: &mut [u32]) {
+    fn solve<C: Code>(&mut self, w: &[C], lo: usize, hi: usize, table: &mut [u32]) {
         if hi - lo <= LEAF {
             return self.scan(w, lo, hi, table);
         }
@@ -252,7 +275,7 @@ impl Rows<'_> {
 }
 
 /// Writes the records of all runs if the table has places for them, and gives their count.
-fn list(w: &[u8], scratch: &mut [u32], table: &mut [u32]) -> usize {
+fn list<C: Code>(w: &[C], scratch: &mut [u32], table: &mut [u32]) -> usize {
     let n = w.len();
     let mut rows = Rows::new(scratch, n);
     rows.ends.fill(0);
@@ -272,7 +295,7 @@ fn list(w: &[u8], scratch: &mut [u32], table: &mut [u32]) -> usize {
     total
 }
 
-fn listed(w: &[u8], scratch: &mut [u32], table: &mut [u32]) -> Answer<u32> {
+fn listed<C: Code>(w: &[C], scratch: &mut [u32], table: &mut [u32]) -> Answer<u32> {
     let count = list(w, scratch, table);
     if table.len() < STRIDE * count {
         return Err((7, 0));
@@ -280,7 +303,7 @@ fn listed(w: &[u8], scratch: &mut [u32], table: &mut [u32]) -> Answer<u32> {
     Ok(count as u32)
 }
 
-pub fn runs(w: &[u8], table: &mut [u32]) -> Answer<u32> {
+pub fn runs<C: Code>(w: &[C], table: &mut [u32]) -> Answer<u32> {
     if LIMIT < w.len() {
         return Err((1, 0));
     }
@@ -304,8 +327,8 @@ fn pick(records: &[u32], turns: usize, x: usize, out: &mut [u32]) -> usize {
     found
 }
 
-fn nodes_in(
-    w: &[u8],
+fn nodes_in<C: Code>(
+    w: &[C],
     turns: usize,
     x: usize,
     scratch: &mut [u32],
@@ -322,7 +345,7 @@ fn nodes_in(
     Ok(count as u32)
 }
 
-pub fn nodes(w: &[u8], edition: u32, position: u32, table: &mut [u32]) -> Answer<u32> {
+pub fn nodes<C: Code>(w: &[C], edition: u32, position: u32, table: &mut [u32]) -> Answer<u32> {
     if LIMIT < w.len() {
         return Err((1, 0));
     }
@@ -381,7 +404,14 @@ fn window(turns: usize) -> usize {
 
 /// Offers a size from boundary j, if it is reached, wherever a block from it ends in the window. Gives
 /// the unit of the window, or what is known where the boundary is not reached.
-fn visit(w: &[u8], turns: usize, choice: u32, j: usize, known: usize, work: &mut [u32]) -> usize {
+fn visit<C: Code>(
+    w: &[C],
+    turns: usize,
+    choice: u32,
+    j: usize,
+    known: usize,
+    work: &mut [u32],
+) -> usize {
     let size = work[j];
     if size == NONE {
         return known;
@@ -396,7 +426,7 @@ fn visit(w: &[u8], turns: usize, choice: u32, j: usize, known: usize, work: &mut
 
 /// Passes the blocks that end at boundary m, where a window ends, on to the next one if a period of
 /// the window goes on there.
-fn lengthen(w: &[u8], m: usize, period: usize, work: &mut [u32]) {
+fn lengthen<C: Code>(w: &[C], m: usize, period: usize, work: &mut [u32]) {
     let n = w.len();
     if n <= m || w[m] != w[m - period] {
         return;
@@ -414,7 +444,7 @@ fn start(work: &mut [u32], n: usize) {
     work[row..row + row].fill(0);
 }
 
-fn fill(w: &[u8], turns: usize, choice: u32, work: &mut [u32]) {
+fn fill<C: Code>(w: &[C], turns: usize, choice: u32, work: &mut [u32]) {
     let n = w.len();
     let two = 2 * (n + 1);
     start(work, n);
@@ -589,8 +619,8 @@ fn finish(n: usize, ends: &mut [u32], work: &mut [u32]) -> Answer<u32> {
     answer
 }
 
-pub fn best_split(
-    w: &[u8],
+pub fn best_split<C: Code>(
+    w: &[C],
     edition: u32,
     choice: u32,
     ends: &mut [u32],
@@ -606,13 +636,18 @@ pub fn best_split(
 }
 
 /// Lists the runs, with the four rows of the working table for scratch, and fills these by them.
-fn fill_squares(w: &[u8], choice: u32, records: &mut [u32], work: &mut [u32]) {
+fn fill_squares<C: Code>(w: &[C], choice: u32, records: &mut [u32], work: &mut [u32]) {
     let n = w.len();
     let count = list(w, &mut work[..ROWS * (n + 1)], records);
     slots::fill(n, records, count, choice, work);
 }
 
-pub fn best_squares(w: &[u8], choice: u32, ends: &mut [u32], work: &mut [u32]) -> Answer<u32> {
+pub fn best_squares<C: Code>(
+    w: &[C],
+    choice: u32,
+    ends: &mut [u32],
+    work: &mut [u32],
+) -> Answer<u32> {
     if LIMIT < w.len() {
         return Err((1, 0));
     }
@@ -626,7 +661,7 @@ pub fn best_squares(w: &[u8], choice: u32, ends: &mut [u32], work: &mut [u32]) -
 }
 
 /// The turns of the edition and the places that two words need, where neither call refuses yet.
-fn admit(a: &[u8], b: &[u8], edition: u32, work: &[u32]) -> Answer<(usize, usize)> {
+fn admit<C: Code>(a: &[C], b: &[C], edition: u32, work: &[u32]) -> Answer<(usize, usize)> {
     let n = a.len().max(b.len());
     if LIMIT < n {
         return Err((1, 0));
@@ -639,7 +674,7 @@ fn admit(a: &[u8], b: &[u8], edition: u32, work: &[u32]) -> Answer<(usize, usize
     Ok((turns, places))
 }
 
-pub fn which_first(a: &[u8], b: &[u8], edition: u32, work: &mut [u32]) -> Answer<u32> {
+pub fn which_first<C: Code>(a: &[C], b: &[C], edition: u32, work: &mut [u32]) -> Answer<u32> {
     let (turns, places) = admit(a, b, edition, work)?;
     let sizes = [a, b].map(|w| {
         fill(w, turns, 1, work);
@@ -662,7 +697,7 @@ fn first_end(prev: &[u32], n: usize) -> u32 {
     end as u32
 }
 
-pub fn first_block(a: &[u8], b: &[u8], edition: u32, work: &mut [u32]) -> [u32; 2] {
+pub fn first_block<C: Code>(a: &[C], b: &[C], edition: u32, work: &mut [u32]) -> [u32; 2] {
     let Ok((turns, places)) = admit(a, b, edition, work) else {
         return [0, 0];
     };
@@ -682,7 +717,7 @@ pub fn first_block(a: &[u8], b: &[u8], edition: u32, work: &mut [u32]) -> [u32; 
     }
 }
 
-pub fn judge_split(w: &[u8], edition: u32, ends: &[u32]) -> Answer<u32> {
+pub fn judge_split<C: Code>(w: &[C], edition: u32, ends: &[u32]) -> Answer<u32> {
     if LIMIT < w.len() {
         return Err((1, 0));
     }
@@ -690,7 +725,7 @@ pub fn judge_split(w: &[u8], edition: u32, ends: &[u32]) -> Answer<u32> {
     judge(w, ends, |part| block_unit(part, turns) != 0)
 }
 
-fn same_halves(part: &[u8]) -> bool {
+fn same_halves<C: Code>(part: &[C]) -> bool {
     let half = part.len() / 2;
     if part.len() % 2 == 1 {
         return false;
@@ -705,7 +740,7 @@ fn same_halves(part: &[u8]) -> bool {
     true
 }
 
-pub fn judge_squares(w: &[u8], ends: &[u32]) -> Answer<u32> {
+pub fn judge_squares<C: Code>(w: &[C], ends: &[u32]) -> Answer<u32> {
     if LIMIT < w.len() {
         return Err((1, 0));
     }
@@ -713,7 +748,7 @@ pub fn judge_squares(w: &[u8], ends: &[u32]) -> Answer<u32> {
 }
 
 /// No part that is tested is empty.
-fn judge(w: &[u8], ends: &[u32], mut fits: impl FnMut(&[u8]) -> bool) -> Answer<u32> {
+fn judge<C: Code>(w: &[C], ends: &[u32], mut fits: impl FnMut(&[C]) -> bool) -> Answer<u32> {
     let n = w.len();
     let mut before = 0;
     for (k, &end) in ends.iter().enumerate() {
@@ -734,19 +769,19 @@ fn judge(w: &[u8], ends: &[u32], mut fits: impl FnMut(&[u8]) -> bool) -> Answer<
 }
 
 /// The unit of a part, by the units of its leading parts.
-fn unit_of(part: &[u8], unit_table: &mut [u32]) -> u32 {
+fn unit_of<C: Code>(part: &[C], unit_table: &mut [u32]) -> u32 {
     units(part, unit_table);
     unit_table[part.len() - 1]
 }
 
-fn blocks_in(w: &[u8], turns: usize, ends: &[u32], unit_table: &mut [u32]) -> Answer<u32> {
+fn blocks_in<C: Code>(w: &[C], turns: usize, ends: &[u32], unit_table: &mut [u32]) -> Answer<u32> {
     judge(w, ends, |part| {
         is_block_of(turns, part.len(), unit_of(part, unit_table) as usize)
     })
 }
 
 /// The verdict of judge a split, of a long word in time linear in its length.
-fn judge_blocks(w: &[u8], edition: u32, ends: &[u32]) -> Answer<u32> {
+fn judge_blocks<C: Code>(w: &[C], edition: u32, ends: &[u32]) -> Answer<u32> {
     if w.len() <= SHORT {
         return judge_split(w, edition, ends);
     }
@@ -756,7 +791,7 @@ fn judge_blocks(w: &[u8], edition: u32, ends: &[u32]) -> Answer<u32> {
     blocks_in(w, turns_of(edition)?, ends, &mut [0; LIMIT])
 }
 
-fn units_in(w: &[u8], ends: &[u32], unit_table: &mut [u32], table: &mut [u32]) {
+fn units_in<C: Code>(w: &[C], ends: &[u32], unit_table: &mut [u32], table: &mut [u32]) {
     let mut before = 0;
     for (k, &end) in ends.iter().enumerate() {
         let end = end as usize;
@@ -765,7 +800,7 @@ fn units_in(w: &[u8], ends: &[u32], unit_table: &mut [u32], table: &mut [u32]) {
     }
 }
 
-fn block_units(w: &[u8], ends: &[u32], table: &mut [u32]) {
+fn block_units<C: Code>(w: &[C], ends: &[u32], table: &mut [u32]) {
     if w.len() <= SHORT {
         return units_in(w, ends, &mut [0; SHORT], table);
     }
@@ -786,7 +821,13 @@ fn note(records: &[u32], before: usize, from: usize, latest: &mut [u32]) -> usiz
     number
 }
 
-fn numbers_in(w: &[u8], ends: &[u32], scratch: &mut [u32], records: &mut [u32], table: &mut [u32]) {
+fn numbers_in<C: Code>(
+    w: &[C],
+    ends: &[u32],
+    scratch: &mut [u32],
+    records: &mut [u32],
+    table: &mut [u32],
+) {
     let total = list(w, scratch, records);
     let (records, latest) = (&records[..STRIDE * total], &mut scratch[..w.len() + 1]);
     latest.fill(0);
@@ -800,7 +841,7 @@ fn numbers_in(w: &[u8], ends: &[u32], scratch: &mut [u32], records: &mut [u32], 
 
 /// Puts the run numbers in the places of the units: the run of a block is the latest of its unit that
 /// starts at or before it.
-fn number_blocks(w: &[u8], ends: &[u32], table: &mut [u32]) {
+fn number_blocks<C: Code>(w: &[C], ends: &[u32], table: &mut [u32]) {
     if w.len() <= SHORT {
         let mut scratch = [0; ROWS * (SHORT + 1)];
         return numbers_in(w, ends, &mut scratch, &mut [0; STRIDE * SHORT], table);
@@ -809,7 +850,12 @@ fn number_blocks(w: &[u8], ends: &[u32], table: &mut [u32]) {
     numbers_in(w, ends, &mut scratch, &mut [0; STRIDE * LIMIT], table);
 }
 
-pub fn path_of_split(w: &[u8], edition: u32, ends: &[u32], table: &mut [u32]) -> Answer<u32> {
+pub fn path_of_split<C: Code>(
+    w: &[C],
+    edition: u32,
+    ends: &[u32],
+    table: &mut [u32],
+) -> Answer<u32> {
     let blocks = judge_blocks(w, edition, ends)?;
     if table.len() < ends.len() {
         return Err((7, 0));
@@ -819,8 +865,8 @@ pub fn path_of_split(w: &[u8], edition: u32, ends: &[u32], table: &mut [u32]) ->
     Ok(blocks)
 }
 
-fn path_in(
-    w: &[u8],
+fn path_in<C: Code>(
+    w: &[C],
     turns: usize,
     numbers: &[u32],
     scratch: &mut [u32],
@@ -851,7 +897,7 @@ fn path_in(
     Ok(blocks)
 }
 
-pub fn judge_path(w: &[u8], edition: u32, numbers: &[u32]) -> Answer<u32> {
+pub fn judge_path<C: Code>(w: &[C], edition: u32, numbers: &[u32]) -> Answer<u32> {
     if LIMIT < w.len() {
         return Err((1, 0));
     }
@@ -882,18 +928,24 @@ fn put_column(out: &mut [u8], x: usize) {
     }
 }
 
-fn put_symbols(out: &mut [u8], unit: &[u8]) {
+fn put_symbols<C: Code>(out: &mut [u8], unit: &[C]) {
     const DIGITS: &[u8; 16] = b"0123456789abcdef";
-    for k in 0..SHOWN {
-        let pair = match unit.get(k) {
-            Some(&s) => [DIGITS[(s >> 4) as usize], DIGITS[(s & 15) as usize]],
-            None => [b' '; 2],
+    let (shown, filling) = out[..SYMBOLS].split_at_mut(C::SHOWN * C::DIGITS);
+    for (k, places) in shown.chunks_exact_mut(C::DIGITS).enumerate() {
+        let Some(&symbol) = unit.get(k) else {
+            places.fill(b' ');
+            continue;
         };
-        out[2 * k..2 * k + 2].copy_from_slice(&pair);
+        let mut rest: u32 = symbol.into();
+        for place in places.iter_mut().rev() {
+            *place = DIGITS[(rest % 16) as usize];
+            rest /= 16;
+        }
     }
+    filling.fill(b' ');
 }
 
-pub fn write_page(w: &[u8], edition: u32, ends: &[u32], out: &mut [u8]) -> Answer<u32> {
+pub fn write_page<C: Code>(w: &[C], edition: u32, ends: &[u32], out: &mut [u8]) -> Answer<u32> {
     judge_blocks(w, edition, ends)?;
     let bytes = LINE * ends.len();
     if out.len() < bytes {

@@ -25,6 +25,24 @@ fn refused(number: u32) -> Outcome {
     Refused(number, 0)
 }
 
+// ---- symbols
+
+/// A symbol: a number without a sign. A page shows so many of a unit, in so many digits each.
+pub trait Code: Copy + Ord + std::fmt::Debug + std::fmt::LowerHex {
+    const SHOWN: usize;
+    const DIGITS: usize;
+}
+
+impl Code for u8 {
+    const SHOWN: usize = 9;
+    const DIGITS: usize = 2;
+}
+
+impl Code for u16 {
+    const SHOWN: usize = 4;
+    const DIGITS: usize = 4;
+}
+
 // ---- editions
 
 pub const EDITIONS: [u32; 2] = [1, 2];
@@ -60,7 +78,7 @@ impl Rule {
 }
 
 /// The rule of an edition, or the two refusals that come first in each call that is told one.
-fn rule_for(w: &[u8], edition: u32) -> Result<Rule, Outcome> {
+fn rule_for<C: Code>(w: &[C], edition: u32) -> Result<Rule, Outcome> {
     if w.len() > LIMIT {
         return Err(refused(1));
     }
@@ -69,18 +87,18 @@ fn rule_for(w: &[u8], edition: u32) -> Result<Rule, Outcome> {
 
 // ---- periods
 
-fn is_period(part: &[u8], p: usize) -> bool {
+fn is_period<C: Code>(part: &[C], p: usize) -> bool {
     1 <= p && p <= part.len() && (0..part.len() - p).all(|i| part[i] == part[i + p])
 }
 
-pub fn plain_unit(part: &[u8]) -> usize {
+pub fn plain_unit<C: Code>(part: &[C]) -> usize {
     (1..=part.len())
         .find(|&p| is_period(part, p))
         .expect("the length is a period")
 }
 
 /// The longest proper border of each prefix of a part.
-fn borders(part: &[u8]) -> Vec<usize> {
+fn borders<C: Code>(part: &[C]) -> Vec<usize> {
     let mut border = vec![0; part.len()];
     for i in 1..part.len() {
         let mut b = border[i - 1];
@@ -93,13 +111,13 @@ fn borders(part: &[u8]) -> Vec<usize> {
 }
 
 /// The length without the longest border is the smallest period.
-pub fn unit(part: &[u8]) -> usize {
+pub fn unit<C: Code>(part: &[C]) -> usize {
     part.len() - borders(part)[part.len() - 1]
 }
 
 /// The unit of each leading part but the empty one. A distance is a period of those that are at least
 /// as long, as far as no two symbols so far apart differ; the first to reach one is its unit.
-pub fn units(part: &[u8]) -> Vec<u32> {
+pub fn units<C: Code>(part: &[C]) -> Vec<u32> {
     let mut units = Vec::new();
     for p in 1..=part.len() {
         let pairs = part.iter().zip(&part[p..]);
@@ -109,7 +127,7 @@ pub fn units(part: &[u8]) -> Vec<u32> {
     units
 }
 
-pub fn plain_is_block(part: &[u8], rule: Rule) -> bool {
+pub fn plain_is_block<C: Code>(part: &[C], rule: Rule) -> bool {
     let unit = plain_unit(part);
     part.len() >= rule.turns * unit && unit <= rule.memory
 }
@@ -122,16 +140,16 @@ pub type Run = (usize, usize, usize, usize);
 /// The numbers of a run in a table.
 pub const RUN_PLACES: usize = 4;
 
-/// Whether a part comes before another of its length in order of symbol code, from 0 to 255: the first
-/// symbols that differ decide.
-fn plain_before(part: &[u8], other: &[u8]) -> bool {
+/// Whether a part comes before another of its length in order of symbol code: the first symbols that
+/// differ decide.
+fn plain_before<C: Code>(part: &[C], other: &[C]) -> bool {
     let mut pairs = part.iter().zip(other);
     pairs.find(|(a, b)| a != b).is_some_and(|(a, b)| a < b)
 }
 
 /// The one position from first to first + p - 1 where the p symbols starting there come before those at
 /// every other.
-pub fn plain_root(w: &[u8], first: usize, p: usize) -> usize {
+pub fn plain_root<C: Code>(w: &[C], first: usize, p: usize) -> usize {
     let positions = first..first + p;
     let symbols_at = |q: usize| &w[q - 1..q - 1 + p];
     let comes_first = |&q: &usize| {
@@ -144,7 +162,7 @@ pub fn plain_root(w: &[u8], first: usize, p: usize) -> usize {
 }
 
 /// The same: of all positions those are kept whose next symbol is least, until one is left.
-pub fn root(w: &[u8], first: usize, p: usize) -> usize {
+pub fn root<C: Code>(w: &[C], first: usize, p: usize) -> usize {
     let mut left: Vec<usize> = (first..first + p).collect();
     let mut compared = 0;
     while left.len() > 1 {
@@ -157,7 +175,7 @@ pub fn root(w: &[u8], first: usize, p: usize) -> usize {
     left[0]
 }
 
-pub fn plain_runs(w: &[u8]) -> Vec<Run> {
+pub fn plain_runs<C: Code>(w: &[C]) -> Vec<Run> {
     let n = w.len();
     let at = |position: usize| w[position - 1];
     let mut runs = Vec::new();
@@ -179,7 +197,7 @@ pub fn plain_runs(w: &[u8]) -> Vec<Run> {
 
 /// For each period, the stretches of symbols equal to the one a period on; those of at least one
 /// period are maximal with it, and are runs if it is their unit.
-pub fn runs(w: &[u8]) -> Vec<Run> {
+pub fn runs<C: Code>(w: &[C]) -> Vec<Run> {
     let n = w.len();
     let mut runs = Vec::new();
     for p in 1..=n / 2 {
@@ -214,23 +232,23 @@ pub fn white(runs: &[Run], rule: Rule, position: usize) -> Vec<u32> {
 // ---- squares
 
 /// Some half that is not empty, twice over, is the part.
-pub fn plain_is_square(part: &[u8]) -> bool {
+pub fn plain_is_square<C: Code>(part: &[C]) -> bool {
     (1..=part.len()).any(|half| part == part[..half].repeat(2))
 }
 
-pub fn is_square(part: &[u8]) -> bool {
+pub fn is_square<C: Code>(part: &[C]) -> bool {
     let (left, right) = part.split_at(part.len() / 2);
     !part.is_empty() && left == right
 }
 
 /// No word has the part as its power with an exponent of 2 or more.
-pub fn plain_is_primitive(part: &[u8]) -> bool {
+pub fn plain_is_primitive<C: Code>(part: &[C]) -> bool {
     let n = part.len();
     (1..n).all(|root| part != part[..root].repeat(n / root))
 }
 
 /// The halves of the squares with these ends.
-pub fn halves<'a>(w: &'a [u8], ends: &'a [u32]) -> impl Iterator<Item = &'a [u8]> {
+pub fn halves<'a, C: Code>(w: &'a [C], ends: &'a [u32]) -> impl Iterator<Item = &'a [C]> {
     let befores = [0].iter().chain(ends);
     befores.zip(ends).map(|(&before, &end)| {
         let square = &w[before as usize..end as usize];
@@ -241,9 +259,15 @@ pub fn halves<'a>(w: &'a [u8], ends: &'a [u32]) -> impl Iterator<Item = &'a [u8]
 // ---- splits
 
 /// Every split of a word into parts that fit, by its ends.
-fn plain_joined(w: &[u8], fits: &dyn Fn(&[u8]) -> bool) -> Vec<Vec<u32>> {
-    type Fits<'f> = &'f dyn Fn(&[u8]) -> bool;
-    fn go(w: &[u8], fits: Fits, from: usize, ends: &mut Vec<u32>, all: &mut Vec<Vec<u32>>) {
+fn plain_joined<C: Code>(w: &[C], fits: &dyn Fn(&[C]) -> bool) -> Vec<Vec<u32>> {
+    type Fits<'f, C> = &'f dyn Fn(&[C]) -> bool;
+    fn go<C: Code>(
+        w: &[C],
+        fits: Fits<C>,
+        from: usize,
+        ends: &mut Vec<u32>,
+        all: &mut Vec<Vec<u32>>,
+    ) {
         if from == w.len() {
             all.push(ends.clone());
         }
@@ -260,11 +284,11 @@ fn plain_joined(w: &[u8], fits: &dyn Fn(&[u8]) -> bool) -> Vec<Vec<u32>> {
     all
 }
 
-pub fn plain_splits(w: &[u8], rule: Rule) -> Vec<Vec<u32>> {
+pub fn plain_splits<C: Code>(w: &[C], rule: Rule) -> Vec<Vec<u32>> {
     plain_joined(w, &|part| plain_is_block(part, rule))
 }
 
-pub fn plain_squares(w: &[u8]) -> Vec<Vec<u32>> {
+pub fn plain_squares<C: Code>(w: &[C]) -> Vec<Vec<u32>> {
     plain_joined(w, &plain_is_square)
 }
 
@@ -287,7 +311,7 @@ fn lengths_from_end(ends: &[u32]) -> Vec<u32> {
 pub type Best = (Vec<u32>, Option<Vec<u32>>);
 
 /// By looking at every split.
-pub fn plain_best(w: &[u8], choice: u32, splits: impl Fn(&[u8]) -> Vec<Vec<u32>>) -> Best {
+pub fn plain_best<C: Code>(w: &[C], choice: u32, splits: impl Fn(&[C]) -> Vec<Vec<u32>>) -> Best {
     let best_of = |splits: &[Vec<u32>]| {
         let sizes = splits.iter().map(|s| s.len() as u32);
         if choice == 1 {
@@ -363,7 +387,7 @@ impl Sizes {
 /// The same for each edition and choice, with a memory of so many symbols: each boundary looks back at
 /// the blocks that end there, the longest first. The units, which take most of the time, are found
 /// once.
-pub fn bests(w: &[u8], memory: usize) -> [[Best; 2]; 2] {
+pub fn bests<C: Code>(w: &[C], memory: usize) -> [[Best; 2]; 2] {
     let n = w.len();
     let mut all = EDITIONS.map(|edition| {
         let turns = turns(edition).expect("both are editions");
@@ -371,7 +395,7 @@ pub fn bests(w: &[u8], memory: usize) -> [[Best; 2]; 2] {
         (rule, [1, 2].map(|choice| Sizes::new(n, choice)))
     });
     for m in 1..=n {
-        let reversed: Vec<u8> = w[..m].iter().rev().copied().collect();
+        let reversed: Vec<C> = w[..m].iter().rev().copied().collect();
         let border = borders(&reversed);
         for j in 0..m {
             let length = m - j;
@@ -387,7 +411,7 @@ pub fn bests(w: &[u8], memory: usize) -> [[Best; 2]; 2] {
 }
 
 /// The same for squares and each choice. The two choices reach the same boundaries.
-pub fn best_squares(w: &[u8]) -> [Best; 2] {
+pub fn best_squares<C: Code>(w: &[C]) -> [Best; 2] {
     let n = w.len();
     let mut both = [1, 2].map(|choice| Sizes::new(n, choice));
     for m in 1..=n {
@@ -451,8 +475,8 @@ pub fn plain_paths(runs: &[Run], rule: Rule, n: usize, target: usize) -> Vec<Vec
 
 // ---- the calls: the outcome, and what an accepted answer writes at the front of its table
 
-pub fn part_call(
-    w: &[u8],
+pub fn part_call<C: Code>(
+    w: &[C],
     edition: u32,
     first: u32,
     last: u32,
@@ -476,7 +500,7 @@ pub fn part_call(
     (Accepted(values.map(|v| v as u32).to_vec()), units)
 }
 
-pub fn runs_call(w: &[u8], runs: &[Run], places: usize) -> (Outcome, Vec<u32>) {
+pub fn runs_call<C: Code>(w: &[C], runs: &[Run], places: usize) -> (Outcome, Vec<u32>) {
     if w.len() > LIMIT {
         return (refused(1), vec![]);
     }
@@ -491,8 +515,8 @@ pub fn runs_call(w: &[u8], runs: &[Run], places: usize) -> (Outcome, Vec<u32>) {
     (Accepted(vec![runs.len() as u32]), flat)
 }
 
-pub fn nodes_call(
-    w: &[u8],
+pub fn nodes_call<C: Code>(
+    w: &[C],
     edition: u32,
     runs: &[Run],
     position: u32,
@@ -515,8 +539,8 @@ pub fn nodes_call(
 /// The outcome, the ends, and the front of the working table where the call changes it.
 type BestAnswer = (Outcome, Vec<u32>, Vec<u32>);
 
-pub fn best_call(
-    w: &[u8],
+pub fn best_call<C: Code>(
+    w: &[C],
     edition: u32,
     choice: u32,
     best: &Best,
@@ -529,8 +553,8 @@ pub fn best_call(
     }
 }
 
-pub fn best_squares_call(
-    w: &[u8],
+pub fn best_squares_call<C: Code>(
+    w: &[C],
     choice: u32,
     best: &Best,
     places: usize,
@@ -561,8 +585,8 @@ fn hand_out(n: usize, choice: u32, best: &Best, places: usize, work_places: usiz
 
 /// Which of two words has fewer blocks in its fewest split: the outcome, and the front of the working
 /// table where the call changes it.
-pub fn which_call(
-    words: [&[u8]; 2],
+pub fn which_call<C: Code>(
+    words: [&[C]; 2],
     edition: u32,
     fewest: [&Best; 2],
     work_places: usize,
@@ -591,8 +615,8 @@ pub fn which_call(
 
 /// The same with the first block of that word: which one, and the block's length. It refuses nothing;
 /// both are 0 where the other call refuses.
-pub fn first_block_call(
-    words: [&[u8]; 2],
+pub fn first_block_call<C: Code>(
+    words: [&[C]; 2],
     edition: u32,
     fewest: [&Best; 2],
     work_places: usize,
@@ -623,7 +647,7 @@ fn verdict(n: usize, ends: &[u32], fits: impl Fn(usize, usize, usize) -> bool) -
     (before != n).then(|| refused(5))
 }
 
-pub fn judge_split_call(w: &[u8], edition: u32, ends: &[u32]) -> Outcome {
+pub fn judge_split_call<C: Code>(w: &[C], edition: u32, ends: &[u32]) -> Outcome {
     let rule = match rule_for(w, edition) {
         Ok(rule) => rule,
         Err(outcome) => return outcome,
@@ -634,7 +658,7 @@ pub fn judge_split_call(w: &[u8], edition: u32, ends: &[u32]) -> Outcome {
     .unwrap_or_else(|| Accepted(vec![ends.len() as u32]))
 }
 
-pub fn judge_squares_call(w: &[u8], ends: &[u32]) -> Outcome {
+pub fn judge_squares_call<C: Code>(w: &[C], ends: &[u32]) -> Outcome {
     if w.len() > LIMIT {
         return refused(1);
     }
@@ -642,8 +666,8 @@ pub fn judge_squares_call(w: &[u8], ends: &[u32]) -> Outcome {
         .unwrap_or_else(|| Accepted(vec![ends.len() as u32]))
 }
 
-pub fn path_call(
-    w: &[u8],
+pub fn path_call<C: Code>(
+    w: &[C],
     edition: u32,
     runs: &[Run],
     ends: &[u32],
@@ -674,9 +698,9 @@ pub fn path_call(
 }
 
 /// A line for each block: number, first, last, unit, turns, rest and run, six characters each, and
-/// eighteen for the first nine symbols of the unit.
-pub fn page_call(
-    w: &[u8],
+/// eighteen for the first symbols of the unit.
+pub fn page_call<C: Code>(
+    w: &[C],
     edition: u32,
     runs: &[Run],
     ends: &[u32],
@@ -693,8 +717,9 @@ pub fn page_call(
         let (length, unit) = (block.len(), unit(block));
         let (number, first) = (k + 1, before + 1);
         let (turns, rest) = (length / unit, length % unit);
-        let shown = &block[..unit.min(9)];
-        let shown: String = shown.iter().map(|s| format!("{s:02x}")).collect();
+        let shown = &block[..unit.min(C::SHOWN)];
+        let digits = |symbol| format!("{symbol:0width$x}", width = C::DIGITS);
+        let shown: String = shown.iter().map(digits).collect();
         text += &format!("{number:>6}{first:>6}{end:>6}{unit:>6}{turns:>6}{rest:>6}{run:>6}");
         text += &format!("{shown:<18}\n");
         before = end as usize;
@@ -705,7 +730,7 @@ pub fn page_call(
     (Accepted(vec![text.len() as u32]), text.into_bytes())
 }
 
-pub fn judge_path_call(w: &[u8], edition: u32, runs: &[Run], numbers: &[u32]) -> Outcome {
+pub fn judge_path_call<C: Code>(w: &[C], edition: u32, runs: &[Run], numbers: &[u32]) -> Outcome {
     let rule = match rule_for(w, edition) {
         Ok(rule) => rule,
         Err(outcome) => return outcome,

@@ -45,4 +45,15 @@ returns-3 c =
     (one-or-two-by-test (g .choice) (sym (c .before .before .before .before .before .before .before .before .before .bad-choice .ensures) ∙ c .before .before .before .before .before .before .before .before .if1 .left)) (omega arith) _ _ _ (c .before .before .before .before .settle .ensures)
 
 pub best-spec : {M : Type 1} → statement M
-best-spec = tie.close (tie.spec bad-choice-requires returns add-if2 mul-if2 returns-2 settle-requires same-length same-length-2 returns-3)
+best-spec =
+    tie.close
+    (tie.spec
+    bad-choice-requires
+    returns
+    add-if2
+    mul-if2
+    returns-2
+    settle-requires
+    same-length
+    same-length-2
+    returns-3)

@@ -14,11 +14,17 @@ returns : tie.Need-returns
 unfolding lengthened
 returns c = simp (le-leb _ _ (c .if1 .taken))
 
+mul-if2 : tie.Need-mul-if2
+mul-if2 c = search needs
+
 shared-slice-read-if2 : tie.Need-shared-slice-read-if2
 shared-slice-read-if2 c = search needs
 
 sub-if2 : tie.Need-sub-if2
 sub-if2 c = search needs
+
+mul-if2-2 : tie.Need-mul-if2-2
+mul-if2-2 c = search needs
 
 shared-slice-read-if2-2 : tie.Need-shared-slice-read-if2-2
 shared-slice-read-if2-2 c = search needs
@@ -80,8 +86,10 @@ lengthen-spec =
     tie.close
     (tie.spec
     returns
+    mul-if2
     shared-slice-read-if2
     sub-if2
+    mul-if2-2
     shared-slice-read-if2-2
     returns-2
     add-row

@@ -35,12 +35,12 @@ count-bounds c =
 
 -- the units of these symbols in row 2
 abbrev Read : Type 0
-Read = tie.After-part
+Read = tie.After-part-16
 
-laid-by : (c : Read) → lent (table (c .before .before)) (second (length (word (c .before .before)))) (third (length (word (c .before .before)))) (c .part .last .1 .1 .1 .1 .0) ≡ laid (word (c .before .before)) (boundary (c .before .before)) (boundary (c .before .before) + c .before .before .lesser .result) (table (c .before .before))
+laid-by : (c : Read) → lent (table (c .before .before)) (second (length (word (c .before .before)))) (third (length (word (c .before .before)))) (c .part-16 .last .1 .1 .1 .1 .0) ≡ laid (word (c .before .before)) (boundary (c .before .before)) (boundary (c .before .before) + c .before .before .lesser .result) (table (c .before .before))
 laid-by c =
     let r = c .before .before in
-    laid-from (word r) 1 (boundary r) (boundary r + r .lesser .result) (table r) _ (omega arith) (inl refl) (omega (arith, count-bounds r)) (count-bounds r .1) (omega arith) (c .part .ensures .1 .0)
+    laid-from (word r) 1 (boundary r) (boundary r + r .lesser .result) (table r) _ (omega arith) (inl refl) (omega (arith, count-bounds r)) (count-bounds r .1) (omega arith) (c .part-16 .ensures .1 .0)
 
 mul-size : tie.Need-mul-size
 mul-size c = search needs
@@ -71,32 +71,32 @@ sub-lesser c = search needs
 lesser-requires : tie.Need-lesser-requires
 lesser-requires c κs = search needs
 
-add-part : tie.Need-add-part
-add-part c = search needs
+add-part-16 : tie.Need-add-part-16
+add-part-16 c = search needs
 
-cast-part : tie.Need-cast-part
-cast-part c = search needs
+cast-part-16 : tie.Need-cast-part-16
+cast-part-16 c = search needs
 
-add-part-2 : tie.Need-add-part-2
-add-part-2 c = search needs
+add-part-16-2 : tie.Need-add-part-16-2
+add-part-16-2 c = search needs
 
-cast-part-2 : tie.Need-cast-part-2
-cast-part-2 c = search needs
+cast-part-16-2 : tie.Need-cast-part-16-2
+cast-part-16-2 c = search needs
 
-mul-part : tie.Need-mul-part
-mul-part c = search needs
+mul-part-16 : tie.Need-mul-part-16
+mul-part-16 c = search needs
 
-sub-part : tie.Need-sub-part
-sub-part c = search needs
+sub-part-16 : tie.Need-sub-part-16
+sub-part-16 c = search needs
 
-part-part-start : tie.Need-part-part-start
-part-part-start c = search needs
+part-part-16-start : tie.Need-part-part-16-start
+part-part-16-start c = search needs
 
-part-part-end : tie.Need-part-part-end
-part-part-end c = search needs
+part-part-16-end : tie.Need-part-part-16-end
+part-part-16-end c = search needs
 
-part-requires : tie.Need-part-requires
-part-requires c κs = search needs
+part-16-requires : tie.Need-part-16-requires
+part-16-requires c κs = search needs
 
 add-spread : tie.Need-add-spread
 add-spread c = omega (arith, c .before .before .before .before .before .before .if1 .left, c .before .before .before .before .before .before .before .slice-known2 .given (c .before .before .before .before .before .before .before .before .before .before .args .j))
@@ -155,15 +155,15 @@ visit-spec =
     mul-lesser
     sub-lesser
     lesser-requires
-    add-part
-    cast-part
-    add-part-2
-    cast-part-2
-    mul-part
-    sub-part
-    part-part-start
-    part-part-end
-    part-requires
+    add-part-16
+    cast-part-16
+    add-part-16-2
+    cast-part-16-2
+    mul-part-16
+    sub-part-16
+    part-part-16-start
+    part-part-16-end
+    part-16-requires
     add-spread
     spread-requires
     sub-result

@@ -39,6 +39,9 @@ part-matches-end-2 c = search needs
 matches-requires : tie.Need-matches-requires
 matches-requires c κs = search needs
 
+mul-matches-3 : tie.Need-mul-matches-3
+mul-matches-3 c = search needs
+
 sub-matches-4 : tie.Need-sub-matches-4
 sub-matches-4 c = search needs
 
@@ -50,6 +53,9 @@ part-matches-end-3 c = search needs
 
 sub-matches-5 : tie.Need-sub-matches-5
 sub-matches-5 c = search needs
+
+mul-matches-4 : tie.Need-mul-matches-4
+mul-matches-4 c = search needs
 
 mul-matches-2 : tie.Need-mul-matches-2
 mul-matches-2 c = search needs
@@ -83,20 +89,22 @@ fill-tables-spec =
     (tie.spec
     add-row
     add-two
+    mul-matches
     sub-matches
     part-matches-start
     part-matches-end
     sub-matches-2
-    mul-matches
+    mul-matches-2
     sub-matches-3
     part-matches-start-2
     part-matches-end-2
     matches-requires
+    mul-matches-3
     sub-matches-4
     part-matches-start-3
     part-matches-end-3
     sub-matches-5
-    mul-matches-2
+    mul-matches-4
     sub-matches-6
     part-matches-start-4
     part-matches-end-4

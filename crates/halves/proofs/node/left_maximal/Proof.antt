@@ -10,6 +10,9 @@ returns c = search needs
 sub-result : tie.Need-sub-result
 sub-result c = search needs
 
+mul-result : tie.Need-mul-result
+mul-result c = search needs
+
 shared-slice-read-result : tie.Need-shared-slice-read-result
 shared-slice-read-result c = search needs
 
@@ -18,6 +21,9 @@ sub-result-2 c = search needs
 
 add-result : tie.Need-add-result
 add-result c = search needs
+
+mul-result-2 : tie.Need-mul-result-2
+mul-result-2 c = search needs
 
 shared-slice-read-result-2 : tie.Need-shared-slice-read-result-2
 shared-slice-read-result-2 c = search needs
@@ -31,8 +37,10 @@ left-maximal-spec =
     (tie.spec
     returns
     sub-result
+    mul-result
     shared-slice-read-result
     sub-result-2
     add-result
+    mul-result-2
     shared-slice-read-result-2
     returns-2)

@@ -28,6 +28,9 @@ add-loop c =
     let q = c .before .before .before .before .pre in
     omega (arith, c .loop .inv .5 .high, q .0, q .2, q .4 .0 .0)
 
+mul-if1 : tie.Need-mul-if1 Inv-loop μ-loop
+mul-if1 c = omega arith
+
 shared-slice-read-if1 : tie.Need-shared-slice-read-if1 Inv-loop μ-loop
 shared-slice-read-if1 c =
     let q = c .before .before .before .before .before .before .pre in
@@ -37,6 +40,9 @@ add-if1 : tie.Need-add-if1 Inv-loop μ-loop
 add-if1 c =
     let q = c .before .before .before .before .before .before .pre in
     omega (arith, c .before .before .loop .inv .5 .high, q .0, q .2, q .4 .0 .0)
+
+mul-if1-2 : tie.Need-mul-if1-2 Inv-loop μ-loop
+mul-if1-2 c = omega arith
 
 shared-slice-read-if1-2 : tie.Need-shared-slice-read-if1-2 Inv-loop μ-loop
 shared-slice-read-if1-2 c =
@@ -126,8 +132,10 @@ scan-period-spec =
     μ-loop
     loop-holds
     add-loop
+    mul-if1
     shared-slice-read-if1
     add-if1
+    mul-if1-2
     shared-slice-read-if1-2
     add-at
     loop-less

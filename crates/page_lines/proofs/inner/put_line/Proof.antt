@@ -3,9 +3,9 @@ use mathlib.Core.Path.{_∙_}
 use Prim.Native.Nat.{_-_}
 use native.Mathlib.Omega.{arith}
 use borrow.Author.Needs.{needs}
-use lib.ListN.{length-set, length-take}
+use lib.ListN.{length-set}
 use Rattle.page_lines.proofs.Columns.{start-unit}
-use Rattle.page_lines.proofs.LineClaims.{line-stored}
+use Rattle.page_lines.proofs.LineClaims.{shown-fit, line-stored}
 use Rattle.page_lines.proofs.inner.put_line.Statement.{statement}
 use Rattle.page_lines.proofs.inner.put_line.Tie as tie
 
@@ -24,6 +24,9 @@ add-put-symbols c = omega (arith, c .start .ensures, start-unit)
 width-requires : tie.Need-width-requires
 width-requires c κs = search needs
 
+mul-put-symbols : tie.Need-mul-put-symbols
+mul-put-symbols c = search needs
+
 sub-put-symbols : tie.Need-sub-put-symbols
 sub-put-symbols c = search needs
 
@@ -36,9 +39,9 @@ part-put-symbols-end c = search needs
 put-symbols-requires : tie.Need-put-symbols-requires
 put-symbols-requires c κs =
     let shown = c .before .before .before .before .before .before .before .before .shown-of in
-    let unit = c .before .before .before .before .before .before .before .before .before .before .before .before .args .unit .now in (
+    let g = c .before .before .before .before .before .before .before .before .before .before .before .before in (
       omega (arith, c .before .before .start .ensures, start-unit, c .before .width .ensures, c .before .before .before .before .before .before .put-numbers .kept .0),
-      omega (arith, c .before .width .ensures, shown .ensures, length-take (shown .result - 0) unit),
+      omega (arith, c .before .width .ensures, shown-fit (g .args .form) (g .pre .2) (g .args .unit .now) (shown .result - 0) (omega (arith, shown .ensures))),
     )
 
 add-out : tie.Need-add-out
@@ -54,7 +57,7 @@ same-length c =
 returns : tie.Need-returns
 returns c =
     let g = c .before .before .before .before .before .before .before .before .before .before .before .before .before .before .before in
-    line-stored (g .args .out .now) _ _ (g .args .numbers .now) (g .args .unit .now) (g .args .at) _ _ _ (g .pre .1)
+    line-stored (g .args .form) (g .pre .2) (g .args .out .now) _ _ (g .args .numbers .now) (g .args .unit .now) (g .args .at) _ _ _ (g .pre .1)
     (c .before .before .before .before .before .before .before .before .before .put-numbers .ensures) (c .before .before .before .before .before .start .ensures) (c .before .before .before .before .width .ensures)
     (c .before .before .before .before .before .before .before .before .before .before .before .shown-of .ensures) (c .before .before .put-symbols .ensures)
 
@@ -67,6 +70,7 @@ put-line-spec =
     start-requires
     add-put-symbols
     width-requires
+    mul-put-symbols
     sub-put-symbols
     part-put-symbols-start
     part-put-symbols-end

@@ -1,56 +1,73 @@
--- `page_lines::inner::put_symbol` meets its contract: a symbol has two digits, and they are stored. Assumes nothing.
-use mathlib.Core.Path.{sym, ap, _∙_}
-use Prim.Native.Nat.{ℕ, _/_, _%_}
+-- `page_lines::inner::put_symbol` meets its contract: with the digits that are still to be stored, those of the quotient that is left, the bytes are what they shall
+-- be. Assumes nothing.
+use mathlib.Core.Path.{_≡_, refl, sym, _∙_}
+use Prim.Native.Nat.{_-_, _≤_}
 use native.Mathlib.Omega.{arith}
-use native.Mathlib.Numerals.{add-one}
-use borrow.Author.Needs.{needs}
-use lib.ListN.{set}
-use lib.Seq.{sets, lt-length-set}
-use Rattle.page_lines.specs.Line.{hexByte}
-use Rattle.page_lines.proofs.Columns.{symbol-digits}
+use lib.ListN.{length, length-set}
+use lib.Seq.{sets}
+use Rattle.page_lines.specs.Line.{hexDigits}
+use Rattle.page_lines.proofs.Columns.{digit-stored, digits-stored}
 use Rattle.page_lines.proofs.inner.put_symbol.Statement.{statement}
 use Rattle.page_lines.proofs.inner.put_symbol.Tie as tie
 
-cast-out : tie.Need-cast-out
-cast-out c = search needs
+abbrev Inv-loop : tie.InvT-loop
+Inv-loop out₀ at digits x rest₀ left₀ out rest left =
+    (left ≤ digits) × (length out ≡ length out₀) × (sets out at (hexDigits left rest) ≡ sets out₀ at (hexDigits digits x))
 
-array-read-out : tie.Need-array-read-out
-array-read-out c = search needs
+abbrev μ-loop : tie.MeasureT-loop
+μ-loop out₀ at digits x rest₀ left₀ out rest left = left
 
-slice-write-out : tie.Need-slice-write-out
-slice-write-out c = search needs
+loop-holds : tie.Need-loop-holds Inv-loop μ-loop
+loop-holds c = (omega arith, refl, refl)
 
-cast-out-2 : tie.Need-cast-out-2
-cast-out-2 c = search needs
+sub-left : tie.Need-sub-left Inv-loop μ-loop
+sub-left c = omega arith
 
-array-read-out-2 : tie.Need-array-read-out-2
-array-read-out-2 c = search needs
+cast-out : tie.Need-cast-out Inv-loop μ-loop
+cast-out c = omega arith
 
-add-out : tie.Need-add-out
-add-out c = search needs
+array-read-out : tie.Need-array-read-out Inv-loop μ-loop
+array-read-out c = omega arith
 
-slice-write-out-2 : tie.Need-slice-write-out-2
-slice-write-out-2 c = lt-length-set (c .args .out .now) (c .args .at) _ (omega arith)
+add-out : tie.Need-add-out Inv-loop μ-loop
+add-out c = omega arith
 
-same-length : tie.Need-same-length
-same-length c = search needs
+slice-write-out : tie.Need-slice-write-out Inv-loop μ-loop
+slice-write-out c = omega arith
 
-returns : tie.Need-returns
+loop-less : tie.Need-loop-less Inv-loop μ-loop
+loop-less c = omega arith
+
+loop-again : tie.Need-loop-again Inv-loop μ-loop
+loop-again c =
+    let l = c .before .loop in
+    let g = c .before .before .args in (
+      omega arith,
+      length-set (l .out) _ _ ∙ l .inv .1,
+      sym (digit-stored (l .out) (g .at) (l .left) (l .left - 1) (l .rest) (omega arith)) ∙ l .inv .2,
+    )
+
+same-length : tie.Need-same-length Inv-loop μ-loop
+same-length c = c .before .loop .inv .1
+
+returns : tie.Need-returns Inv-loop μ-loop
 returns c =
-    let g = c .args in
-    ap (λ (i : ℕ). set (set (g .out .now) (g .at) (hexByte (g .x / 16))) i (hexByte (g .x % 16))) (add-one (g .at))
-    ∙ ap (sets (g .out .now) (g .at)) (sym (symbol-digits (g .x) (omega arith)))
+    let l = c .before .loop in
+    sym (digits-stored (l .out) (c .before .before .args .at) (l .left) (l .rest) (omega arith)) ∙ l .inv .2
 
 pub put-symbol-spec : {M : Type 1} → statement M
 put-symbol-spec =
     tie.close
     (tie.spec
+    Inv-loop
+    μ-loop
+    loop-holds
+    sub-left
     cast-out
     array-read-out
-    slice-write-out
-    cast-out-2
-    array-read-out-2
     add-out
-    slice-write-out-2
+    slice-write-out
+    loop-less
+    loop-again
     same-length
     returns)

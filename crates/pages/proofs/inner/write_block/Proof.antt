@@ -36,6 +36,11 @@ mul-put-line c = search needs
 slice-aggregate-put-line : tie.Need-slice-aggregate-put-line
 slice-aggregate-put-line c = search needs
 
+mul-put-line-2 : tie.Need-mul-put-line-2
+mul-put-line-2 c =
+    let g = c .before .before .before .before .before in
+    omega (arith, unit-bounds g, g .pre .0 .1, g .pre .0 .2 .0)
+
 sub-put-line : tie.Need-sub-put-line
 sub-put-line c = search needs
 
@@ -60,6 +65,7 @@ put-line-requires c κs =
     let n = numbers (c .before .before .before) in (
       omega (arith, g .pre .0 .3),
       subst LineNumbers (sym n) (numbers-short (g .args .w .now) (omega (arith, g .pre .0 .1)) (g .args .k + 1) (g .args .before) (g .args .end) (g .pre .0 .2) (omega (arith, up g, g .pre .0 .0))),
+      g .pre .0 .4,
     )
 
 same-length : tie.Need-same-length
@@ -71,7 +77,7 @@ returns c =
     let w = g .args .w .now in
     c .before .before .put-line .ensures
     ∙ ap (sets (g .args .out .now) (lineBytes * g .args .k))
-    (ap₂ line (numbers (c .before .before .before .before .before .before)) (ap (λ (p : ℕ). part w (g .args .before) (g .args .before + p)) (g .pre .1 .0)) ∙ page-line-is w (g .args .k + 1) (g .args .before) (g .args .end))
+    (ap₂ (line (g .args .form)) (numbers (c .before .before .before .before .before .before)) (ap (λ (p : ℕ). part w (g .args .before) (g .args .before + p)) (g .pre .1 .0)) ∙ page-line-is (g .args .form) w (g .args .k + 1) (g .args .before) (g .args .end))
 
 pub write-block-spec : {M : Type 1} → statement M
 write-block-spec =
@@ -81,6 +87,7 @@ write-block-spec =
     add-after
     mul-put-line
     slice-aggregate-put-line
+    mul-put-line-2
     sub-put-line
     part-put-line-start
     part-put-line-end

@@ -15,6 +15,7 @@ use Rattle.repetitions.proofs.Blocks.{block-up, blocks-half}
 use Rattle.paths.specs.Walk.{Factored}
 use Rattle.paths.proofs.NumberLaws.{units-room, units-stand}
 use Rattle.writers.proofs.Stores.{Left, stored, stored-length, left-all, left-as, left-less, left-none}
+use Rattle.page_lines.specs.declared.Form.{Form}
 use Rattle.page_lines.specs.Line.{lineBytes}
 use Rattle.pages.specs.Page.{pageLine, page}
 use Rattle.pages.proofs.PageClaims.{page-line-length}
@@ -26,12 +27,12 @@ abbrev most-blocks : ℕ
 most-blocks = 2048
 
 abbrev Inv-loop : tie.InvT-loop
-Inv-loop w ends out₀ units numbers before₀ k₀ out before k =
+Inv-loop w form ends out₀ units numbers before₀ k₀ out before k =
     (k ≤ before) × (length out ≡ length out₀) × Taken (Block heldPeriod 2 w) ends (length w) k before
-    × Left out₀ 0 (page w ends) out (lineBytes * k) (textOfBlocks (pageLine w) k before (drop k ends))
+    × Left out₀ 0 (page form w ends) out (lineBytes * k) (textOfBlocks (pageLine form w) k before (drop k ends))
 
 abbrev μ-loop : tie.MeasureT-loop
-μ-loop w ends out₀ units numbers before₀ k₀ out before k = length ends - k
+μ-loop w form ends out₀ units numbers before₀ k₀ out before k = length ends - k
 
 -- there is a place for each block
 few : (w ends : List ℕ) → Factored w ends → length ends ≤ most-blocks
@@ -58,7 +59,7 @@ number-blocks-requires c κs =
     ((g .pre .0, units-room w ends (replicate most-blocks 0) _ room U), units-stand w ends (replicate most-blocks 0) _ room U)
 
 loop-holds : tie.Need-loop-holds Inv-loop μ-loop
-loop-holds c = let g = c .before .before .before .before .before .before .before .before .before in (omega arith, refl, none-taken (g .pre .0 .1), left-all (g .args .out .now) 0 (page (g .args .w .now) (g .args .ends .now)) _ refl)
+loop-holds c = let g = c .before .before .before .before .before .before .before .before .before in (omega arith, refl, none-taken (g .pre .0 .1), left-all (g .args .out .now) 0 (page (g .args .form) (g .args .w .now) (g .args .ends .now)) _ refl)
 
 -- in a turn of the loop: the state at the start, and the end of the next piece
 abbrev Turn : Type 0
@@ -66,6 +67,9 @@ Turn = tie.At-loop Inv-loop μ-loop
 
 abbrev word : Turn → List ℕ
 word c = c .before .before .before .before .before .before .before .before .before .before .args .w .now
+
+abbrev form-given : Turn → Form
+form-given c = c .before .before .before .before .before .before .before .before .before .before .args .form
 
 abbrev ends-given : Turn → List ℕ
 ends-given c = c .before .before .before .before .before .before .before .before .before .before .args .ends .now
@@ -110,7 +114,7 @@ write-block-requires c κs =
     let t = c .before .before .before in
     let g = t .before .before .before .before .before .before .before .before .before .before in
     let P = t .loop .inv .2 in (
-      (t .loop .inv .0, g .pre .0 .0, block t (omega arith), omega (arith, t .loop .inv .1, g .pre .1)),
+      (t .loop .inv .0, g .pre .0 .0, block t (omega arith), omega (arith, t .loop .inv .1, g .pre .1), g .pre .2),
       (
         next-in-table P (omega arith) (λ a b. smallestPeriod (part (word t) a b)) _ _ (t .before .before .before .before .before .block-units .ensures),
         next-in-table P (omega arith) (runNumber (word t)) _ _ (t .before .before .number-blocks .ensures),
@@ -127,14 +131,15 @@ loop-again : tie.Need-loop-again Inv-loop μ-loop
 loop-again c =
     let t = c .before .before .before .before .before .before in
     let w = word t in
+    let form = form-given t in
     let l = t .loop in
     let u = up t (omega arith) in
-    let long = page-line-length w (omega (arith, t .before .before .before .before .before .before .before .before .before .before .pre .0 .0)) (l .k + 1) (l .before) (end t) (block t (omega arith)) (omega (arith, l .inv .0)) in
-    let S = stored (l .out) (lineBytes * l .k) (pageLine w (l .k + 1) (l .before) (end t)) _ (lineBytes * (l .k + 1)) (omega (arith, long), c .before .before .write-block .ensures) in (
+    let long = page-line-length form (t .before .before .before .before .before .before .before .before .before .before .pre .2) w (omega (arith, t .before .before .before .before .before .before .before .before .before .before .pre .0 .0)) (l .k + 1) (l .before) (end t) (block t (omega arith)) (omega (arith, l .inv .0)) in
+    let S = stored (l .out) (lineBytes * l .k) (pageLine form w (l .k + 1) (l .before) (end t)) _ (lineBytes * (l .k + 1)) (omega (arith, long), c .before .before .write-block .ensures) in (
       omega (arith, l .inv .0),
       stored-length S ∙ l .inv .1,
       one-more-taken (l .inv .2) (omega arith),
-      left-less (textOfBlocks (pageLine w) (l .k + 1) (end t) (drop (l .k + 1) (ends-given t))) (left-as _ (text-more (pageLine w) (ends-given t) (l .k) (l .before) (omega arith)) (l .inv .3)) S,
+      left-less (textOfBlocks (pageLine form w) (l .k + 1) (end t) (drop (l .k + 1) (ends-given t))) (left-as _ (text-more (pageLine form w) (ends-given t) (l .k) (l .before) (omega arith)) (l .inv .3)) S,
     )
 
 same-length : tie.Need-same-length Inv-loop μ-loop
@@ -143,7 +148,7 @@ same-length c = c .before .loop .inv .1
 returns : tie.Need-returns Inv-loop μ-loop
 returns c =
     let t = c .before in
-    left-none (left-as [] (text-done (pageLine (word t)) (ends-given t) (t .loop .k) (t .loop .before) (omega arith)) (t .loop .inv .3)) .bytes
+    left-none (left-as [] (text-done (pageLine (form-given t) (word t)) (ends-given t) (t .loop .k) (t .loop .before) (omega arith)) (t .loop .inv .3)) .bytes
 
 pub write-lines-spec : {M : Type 1} → statement M
 write-lines-spec =

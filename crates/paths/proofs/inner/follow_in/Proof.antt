@@ -151,6 +151,9 @@ returns c =
     let t = c .before .before .before .before in
     judged-bad-end (test t) (length (word t)) (endsOfPairs (given t)) (t .loop .k) (t .loop .before) (end t) (inside t (omega arith)) (sym (end-given (given t) (t .loop .k) (omega arith))) (sym (c .before .bad-end .ensures) ∙ c .if1 .taken) ∙ t .loop .inv .3
 
+mul-units : tie.Need-mul-units Inv-loop μ-loop
+mul-units c = omega arith
+
 sub-units : tie.Need-sub-units Inv-loop μ-loop
 sub-units c = omega (arith, fits c)
 
@@ -291,6 +294,7 @@ follow-in-spec =
     same-length-2
     same-length-3
     returns
+    mul-units
     sub-units
     part-units-start
     part-units-end

@@ -89,6 +89,9 @@ returns c =
     let t = c .before .before .before .before in
     judged-bad-end (test t) (length (word t)) (ends-given t) (t .loop .k) (t .loop .before) (end t) (omega arith) refl (sym (c .before .bad-end .ensures) ∙ c .if1 .taken) ∙ t .loop .inv .3
 
+mul-units : tie.Need-mul-units Inv-loop μ-loop
+mul-units c = omega arith
+
 sub-units : tie.Need-sub-units Inv-loop μ-loop
 sub-units c = omega (arith, fits c)
 
@@ -159,8 +162,8 @@ returns-3 c =
     let t = c .before .before in
     judged-unfinished (test t) (length (word t)) (ends-given t) (t .loop .k) (t .loop .before) (omega arith) (c .if3 .taken) ∙ t .loop .inv .3
 
-cast-t26 : tie.Need-cast-t26 Inv-loop μ-loop
-cast-t26 c = omega arith
+cast-t27 : tie.Need-cast-t27 Inv-loop μ-loop
+cast-t27 c = omega arith
 
 same-length-4 : tie.Need-same-length-4 Inv-loop μ-loop
 same-length-4 c = c .before .before .loop .inv .4
@@ -185,6 +188,7 @@ judge-in-spec =
     bad-end-requires
     same-length
     returns
+    mul-units
     sub-units
     part-units-start
     part-units-end
@@ -198,6 +202,6 @@ judge-in-spec =
     loop-again
     same-length-3
     returns-3
-    cast-t26
+    cast-t27
     same-length-4
     returns-4)

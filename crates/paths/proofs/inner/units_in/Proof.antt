@@ -67,6 +67,9 @@ shared-slice-read-end c = omega arith
 cast-end : tie.Need-cast-end Inv-loop μ-loop
 cast-end c = omega (arith, block (c .before .before) (omega arith) .0)
 
+mul-units : tie.Need-mul-units Inv-loop μ-loop
+mul-units c = omega (arith, up (c .before .before) (omega arith), block (c .before .before) (omega arith) .0)
+
 sub-units : tie.Need-sub-units Inv-loop μ-loop
 sub-units c = omega (arith, up (c .before .before) (omega arith))
 
@@ -135,6 +138,7 @@ units-in-spec =
     mul-end
     shared-slice-read-end
     cast-end
+    mul-units
     sub-units
     part-units-start
     part-units-end

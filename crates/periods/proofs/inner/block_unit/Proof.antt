@@ -63,11 +63,17 @@ loop-holds c = (omega arith, below-none _)
 sub-loop : tie.Need-sub-loop Inv-loop μ-loop Inv-outer μ-outer
 sub-loop c = fits (c .before) .0
 
+mul-if2 : tie.Need-mul-if2 Inv-loop μ-loop Inv-outer μ-outer
+mul-if2 c = omega arith
+
 shared-slice-read-if2 : tie.Need-shared-slice-read-if2 Inv-loop μ-loop Inv-outer μ-outer
 shared-slice-read-if2 c = omega arith
 
 add-if2 : tie.Need-add-if2 Inv-loop μ-loop Inv-outer μ-outer
 add-if2 c = omega arith
+
+mul-if2-2 : tie.Need-mul-if2-2 Inv-loop μ-loop Inv-outer μ-outer
+mul-if2-2 c = omega arith
 
 shared-slice-read-if2-2 : tie.Need-shared-slice-read-if2-2 Inv-loop μ-loop Inv-outer μ-outer
 shared-slice-read-if2-2 c = omega arith
@@ -111,8 +117,10 @@ block-unit-spec =
     is-block-of-requires
     loop-holds
     sub-loop
+    mul-if2
     shared-slice-read-if2
     add-if2
+    mul-if2-2
     shared-slice-read-if2-2
     outer-less
     outer-again

@@ -62,8 +62,14 @@ loop-holds c = (omega arith, omega arith, omega arith, omega arith, λ t U. U)
 sub-if2 : tie.Need-sub-if2 Inv-loop μ-loop Inv-outer μ-outer
 sub-if2 c = omega arith
 
+mul-if2 : tie.Need-mul-if2 Inv-loop μ-loop Inv-outer μ-outer
+mul-if2 c = omega arith
+
 shared-slice-read-if2 : tie.Need-shared-slice-read-if2 Inv-loop μ-loop Inv-outer μ-outer
 shared-slice-read-if2 c = omega arith
+
+mul-if2-2 : tie.Need-mul-if2-2 Inv-loop μ-loop Inv-outer μ-outer
+mul-if2-2 c = omega arith
 
 shared-slice-read-if2-2 : tie.Need-shared-slice-read-if2-2 Inv-loop μ-loop Inv-outer μ-outer
 shared-slice-read-if2-2 c = omega arith
@@ -155,7 +161,9 @@ units-spec =
     outer-holds
     loop-holds
     sub-if2
+    mul-if2
     shared-slice-read-if2
+    mul-if2-2
     shared-slice-read-if2-2
     cast-table
     mul-table

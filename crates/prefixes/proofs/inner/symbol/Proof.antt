@@ -10,11 +10,17 @@ sub-result c = search needs
 sub-result-2 : tie.Need-sub-result-2
 sub-result-2 c = search needs
 
+mul-result : tie.Need-mul-result
+mul-result c = search needs
+
 shared-slice-read-result : tie.Need-shared-slice-read-result
 shared-slice-read-result c = search needs
 
 returns : tie.Need-returns
 returns c = rw (c .before .if1 .taken) refl
+
+mul-result-2 : tie.Need-mul-result-2
+mul-result-2 c = search needs
 
 shared-slice-read-result-2 : tie.Need-shared-slice-read-result-2
 shared-slice-read-result-2 c = search needs
@@ -28,7 +34,9 @@ symbol-spec =
     (tie.spec
     sub-result
     sub-result-2
+    mul-result
     shared-slice-read-result
     returns
+    mul-result-2
     shared-slice-read-result-2
     returns-2)

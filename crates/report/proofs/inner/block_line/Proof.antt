@@ -18,6 +18,9 @@ use Rattle.report.proofs.inner.block_line.Tie as tie
 turns-requires : tie.Need-turns-requires
 turns-requires c κs = search needs
 
+mul-block-unit : tie.Need-mul-block-unit
+mul-block-unit c = omega (arith, block-up heldPeriod printedTurns (c .before .before .before .args .w .now) (c .before .before .before .args .before) (c .before .before .before .args .end) (c .before .before .before .pre .0 .3))
+
 sub-block-unit : tie.Need-sub-block-unit
 sub-block-unit c = omega (arith, block-up heldPeriod printedTurns (c .before .before .before .args .w .now) (c .before .before .before .args .before) (c .before .before .before .args .end) (c .before .before .before .pre .0 .3))
 
@@ -110,6 +113,7 @@ block-line-spec =
     tie.close
     (tie.spec
     turns-requires
+    mul-block-unit
     sub-block-unit
     part-block-unit-start
     part-block-unit-end

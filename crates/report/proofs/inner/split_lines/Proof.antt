@@ -15,21 +15,21 @@ use Rattle.report.proofs.Splits.{endsOf, Blocked, split-refused, split-
 use Rattle.report.proofs.inner.split_lines.Statement.{statement}
 use Rattle.report.proofs.inner.split_lines.Tie as tie
 
+slice-aggregate-best-split-16 : tie.Need-slice-aggregate-best-split-16
+slice-aggregate-best-split-16 c = search needs
+
+slice-aggregate-best-split-16-2 : tie.Need-slice-aggregate-best-split-16-2
+slice-aggregate-best-split-16-2 c = search needs
+
+best-split-16-requires : tie.Need-best-split-16-requires
+best-split-16-requires c κs = search needs
+
 -- the two tables that best split is lent
 abbrev ends-lent : List ℕ
 ends-lent = replicate mostBlocks 0
 
 abbrev work-lent : List ℕ
 work-lent = replicate (rows * (programLimit + 1)) 0
-
-slice-aggregate-best-split : tie.Need-slice-aggregate-best-split
-slice-aggregate-best-split c = search needs
-
-slice-aggregate-best-split-2 : tie.Need-slice-aggregate-best-split-2
-slice-aggregate-best-split-2 c = search needs
-
-best-split-requires : tie.Need-best-split-requires
-best-split-requires c κs = search needs
 
 enum-told : tie.Need-enum-told
 enum-told c = search needs
@@ -81,20 +81,20 @@ abbrev blocks : Known → ℕ
 blocks c = c .before .before .before .before .before .before .best .given .0 .0
 
 abbrev ends-written : Known → List ℕ
-ends-written c = c .before .before .before .before .before .before .before .before .before .before .best-split .last .1 .1 .1 .0
+ends-written c = c .before .before .before .before .before .before .before .before .before .before .best-split-16 .last .1 .1 .1 .0
 
 -- what the answer of best split says
 counted : (c : Known) → Blocked (word c) (choice-given c) (name-given c) (blocks c) (ends-written c)
 counted c =
     let p = c .before .before .before .before .before .before .before .before .before .before .before .before .before .before .before .before .pre .0 in
-    let s = c .before .before .before .before .before .before .before .before .before .before .best-split in
+    let s = c .before .before .before .before .before .before .before .before .before .before .best-split-16 in
     split-counted (word c) (choice-given c) (name-given c) ends-lent work-lent (p .1) (p .2) (p .3) (length-replicate {A = ℕ} mostBlocks 0) (length-replicate {A = ℕ} (rows * (programLimit + 1)) 0)
     (s .result) (blocks c) (c .before .before .before .before .before .before .best .given .1) (s .ensures .0) (s .last .1 .1 .1 .0) (s .ensures .1 .0)
 
 part-block-lines-end : tie.Need-part-block-lines-end
 part-block-lines-end c =
     let k = c .before in
-    omega (arith, counted k .few, k .before .before .before .before .before .before .before .before .before .before .best-split .kept .1 .1 .1 .0, length-replicate {A = ℕ} mostBlocks 0, k .before .before .before .before .before .before .before .before .before .before .before .before .before .before .before .before .pre .0 .1)
+    omega (arith, counted k .few, k .before .before .before .before .before .before .before .before .before .before .best-split-16 .kept .1 .1 .1 .0, length-replicate {A = ℕ} mostBlocks 0, k .before .before .before .before .before .before .before .before .before .before .before .before .before .before .before .before .pre .0 .1)
 
 block-lines-requires : tie.Need-block-lines-requires
 block-lines-requires c κs =
@@ -110,7 +110,7 @@ returns : tie.Need-returns
 returns c =
     let b = c .before .before .before .before .before .before .before .before .before .before .before .before .before .before .before .before .before .before .before in
     let g = b .args in
-    let s = c .before .before .before .before .before .before .before .before .before .before .before .before .before .best-split in
+    let s = c .before .before .before .before .before .before .before .before .before .before .before .before .before .best-split-16 in
     let r = c .before .before .before .before .before .before .before .before .before .enum-told .given in
     let first = c .before .before .before .before .before .before .before .put-text in
     let none =
@@ -139,9 +139,9 @@ pub split-lines-spec : {M : Type 1} → statement M
 split-lines-spec =
     tie.close
     (tie.spec
-    slice-aggregate-best-split
-    slice-aggregate-best-split-2
-    best-split-requires
+    slice-aggregate-best-split-16
+    slice-aggregate-best-split-16-2
+    best-split-16-requires
     enum-told
     put-text-requires
     slice-aggregate-put-text

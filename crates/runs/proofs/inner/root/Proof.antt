@@ -80,11 +80,17 @@ loop-holds c =
 add-x : tie.Need-add-x Inv-loop μ-loop
 add-x c = omega arith
 
+mul-x : tie.Need-mul-x Inv-loop μ-loop
+mul-x c = omega arith
+
 shared-slice-read-x : tie.Need-shared-slice-read-x Inv-loop μ-loop
 shared-slice-read-x c = omega arith
 
 add-y : tie.Need-add-y Inv-loop μ-loop
 add-y c = omega arith
+
+mul-y : tie.Need-mul-y Inv-loop μ-loop
+mul-y c = omega arith
 
 shared-slice-read-y : tie.Need-shared-slice-read-y Inv-loop μ-loop
 shared-slice-read-y c = omega arith
@@ -164,8 +170,10 @@ root-spec =
     add-rival
     loop-holds
     add-x
+    mul-x
     shared-slice-read-x
     add-y
+    mul-y
     shared-slice-read-y
     add-same
     loop-less
