@@ -30,15 +30,16 @@
  *
  * Calls are reentrant: they keep no state, allocate nothing and call nothing back, so any number of
  * threads may call at once, with tables of their own. What a call costs is said in each comment, n
- * being the length of the word; where no stack is named, it is under 450 bytes. Stack figures are
- * for 16-bit codes: the calls on bytes widen a word once, on the stack, and take 9 KiB more, or 17
- * where there are two words; cegridom_part, cegridom_judge_split and cegridom_judge_squares go over
- * the bytes themselves and take no more. The figures are for a warm call: where memset or memcpy is
- * bound lazily, the first call of a process may take some 3 KiB more, since the dynamic linker looks
- * them up on the caller's stack.
+ * being the length of the word; where no stack is named, it is under 1 KiB. A thread of 2 MiB is
+ * enough for every call. The stack that is named is for the longest words: no call takes more than
+ * 108 KiB for up to 4,096 symbols, and 16 KiB for up to 64. None takes more than 1.5 MiB but
+ * cegridom_best_split and cegridom_best_squares, which write the ends by recursion, with 48 bytes a
+ * block: 1.7 MB for 35,000 blocks, the most that there are. The figures are of bytes; 16-bit codes
+ * take as much or less. They are for a warm call: where memset is bound lazily, the first call of a
+ * process may take some 3 KiB more, since the dynamic linker looks it up on the caller's stack.
  *
  * The functions are those of libcegridom.a, for x86-64 Linux only, which `rt staticlib cegridom`
- * proves and writes to target/staticlib; it needs nothing but the C library's memset and memcpy.
+ * proves and writes to target/staticlib; it needs nothing but the C library's memset.
  * Nothing checks these declarations against the source of the library: tests/c compares what every
  * call gives.
  */
@@ -54,12 +55,15 @@ extern "C" {
 
 /* The version of this header, in numbers and as text; cegridom_version gives the archive's. */
 #define CEGRIDOM_VERSION_MAJOR 0
-#define CEGRIDOM_VERSION_MINOR 10
+#define CEGRIDOM_VERSION_MINOR 11
 #define CEGRIDOM_VERSION (1000 * CEGRIDOM_VERSION_MAJOR + CEGRIDOM_VERSION_MINOR)
-#define CEGRIDOM_VERSION_STRING "0.10"
+#define CEGRIDOM_VERSION_STRING "0.11"
 
 /* The longest word that is taken. */
-#define CEGRIDOM_LIMIT 4096
+#define CEGRIDOM_LIMIT 70000
+/* The longest word that a plan line of four digits a number is for; the line of a longer one has
+   six digits a number. */
+#define CEGRIDOM_LINE_LIMIT 4096
 /* The longest unit of a block, in both editions: what unit memory holds. */
 #define CEGRIDOM_UNIT_MEMORY 256
 /* What the working tables of cegridom_best_split and cegridom_best_squares hold for a prefix that
@@ -83,11 +87,18 @@ extern "C" {
 #define CEGRIDOM_MOST_RUN_PLACES(n) CEGRIDOM_RUN_PLACES(n)
 /* The bytes of a page of so many blocks. */
 #define CEGRIDOM_PAGE_BYTES(k) (61 * (k))
-/* The bytes of a plan line with k ends. */
+/* The bytes of a plan line of four digits a number with k ends, of one of six, and of the one that
+   is for a word of n symbols. */
 #define CEGRIDOM_PLAN_BYTES(k) (15 + 5 * (k))
-/* The most ends that a plan line of so many bytes has. CEGRIDOM_MOST_ENDS is not enough for reading
-   one, since the pieces of a plan may be of length 1. */
+#define CEGRIDOM_LONG_BYTES(k) (19 + 7 * (k))
+#define CEGRIDOM_LINE_BYTES(n, k)                                                                  \
+    ((n) > CEGRIDOM_LINE_LIMIT ? CEGRIDOM_LONG_BYTES(k) : CEGRIDOM_PLAN_BYTES(k))
+/* The most ends that a line of so many bytes has, of four digits a number or of six. The first is
+   never less than the second, so it gives enough places for a line of either kind.
+   CEGRIDOM_MOST_ENDS is not enough for reading one, since the pieces of a plan may be of length
+   1. */
 #define CEGRIDOM_PLAN_ENDS(bytes) ((bytes) < 15 ? 0 : ((bytes) - 15) / 5)
+#define CEGRIDOM_LONG_ENDS(bytes) ((bytes) < 19 ? 0 : ((bytes) - 19) / 7)
 
 /* Editions of the winder's controller, told to each call that tests for blocks or nodes: the old
    winders hold a block from 2 x its unit on, the new one from 3 x its unit on. They do not apply to
@@ -105,7 +116,7 @@ extern "C" {
 enum cegridom_result {
     /* accepted */
     CEGRIDOM_ACCEPTED = 0,
-    /* n above 4,096 */
+    /* n above 70,000; in a plan line of four digits a number, above 4,096 */
     CEGRIDOM_TOO_LONG = 1,
     /* no split exists */
     CEGRIDOM_NO_SPLIT = 2,
@@ -127,7 +138,8 @@ enum cegridom_result {
     CEGRIDOM_SHORT_TABLE = 9,
     /* a path with an odd count of numbers */
     CEGRIDOM_ODD_PATH = 10,
-    /* bytes that are not one plan line, or whose count of ends differs from the one stated */
+    /* bytes that are not one plan line, or whose count of ends differs from the one stated; a line
+       of six digits a number whose n is 4,096 or less is none */
     CEGRIDOM_NOT_PLAN = 11,
     /* an edition other than 1 or 2 */
     CEGRIDOM_BAD_EDITION = 12
@@ -139,7 +151,7 @@ static inline const char *cegridom_message(uint32_t result) {
     case CEGRIDOM_ACCEPTED:
         return "accepted";
     case CEGRIDOM_TOO_LONG:
-        return "n above 4,096";
+        return "n above 70,000";
     case CEGRIDOM_NO_SPLIT:
         return "no split exists";
     case CEGRIDOM_BAD_END:
@@ -203,7 +215,7 @@ uint32_t cegridom_part_16(const uint16_t *word, size_t n, uint32_t edition, uint
  * roots are the same.
  * Reads word; changes the first 4 x count places of table. Refusals: 1, 7.
  * CEGRIDOM_MOST_RUN_PLACES(n) places, 4 x n, suffice for every word: with so many, 7 never comes.
- * Time at most n x log n, with one more logarithm on powers; 67 KiB of stack.
+ * Time at most n x log n, with one more logarithm on powers; 1,246 KiB of stack.
  */
 uint32_t cegridom_runs(const uint8_t *word, size_t n, uint32_t *table, size_t places,
                        uint32_t *count, uint32_t *index);
@@ -216,7 +228,7 @@ uint32_t cegridom_runs_16(const uint16_t *word, size_t n, uint32_t *table, size_
  * first + 3 x unit - 1) to last; a run whose unit is above 256 has none.
  * Reads word; changes the first count places of table. Refusals: 1, 12, 6, 7.
  * n places suffice, since a word has fewer runs than symbols: with so many, 7 never comes.
- * Time that of runs; 131 KiB of stack.
+ * Time that of runs; 1,521 KiB of stack.
  */
 uint32_t cegridom_nodes(const uint8_t *word, size_t n, uint32_t edition, uint32_t position,
                         uint32_t *table, size_t places, uint32_t *count, uint32_t *index);
@@ -234,7 +246,7 @@ uint32_t cegridom_nodes_16(const uint16_t *word, size_t n, uint32_t edition, uin
  * answer and after refusals 2 and 7 alike. After 1, 12, 8 and 9 it keeps its contents. Places past
  * 4 x (n+1) never change.
  * Time at most proportional to n x 512 (edition 2: n x 768), for long words: from each boundary so
- * many symbols are read. 350 bytes of stack and 48 a block of the split, 97 KiB at most.
+ * many symbols are read. 500 bytes of stack and 48 a block of the split, 1.7 MB at most.
  */
 uint32_t cegridom_best_split(const uint8_t *word, size_t n, uint32_t edition, uint32_t choice,
                              uint32_t *ends, size_t end_places, uint32_t *work, size_t work_places,
@@ -254,8 +266,8 @@ uint32_t cegridom_best_split_16(const uint16_t *word, size_t n, uint32_t edition
  * 0 to n, CEGRIDOM_NONE where the prefix has no split into squares, and 0 in the following
  * 3 x (n+1); after an answer and after refusals 2 and 7 alike. After 1, 8 and 9 it keeps its
  * contents. Places past 4 x (n+1) never change.
- * Time that of runs, and a step for each run and each symbol in it; 67 KiB of stack and 48 bytes a
- * square of the split, 161 KiB at most.
+ * Time that of runs, and a step for each run and each symbol in it; 1,248 KiB of stack, or
+ * 500 bytes and 48 a square of the split where that is more, 1.7 MB at most.
  */
 uint32_t cegridom_best_squares(const uint8_t *word, size_t n, uint32_t choice, uint32_t *ends,
                                size_t end_places, uint32_t *work, size_t work_places,
@@ -325,7 +337,7 @@ uint32_t cegridom_judge_squares_16(const uint16_t *word, size_t n, const uint32_
  * Reads word and ends; changes the first blocks places of table.
  * Refusals: 1; 12; then for each end in turn 3, 4; then 5; then 7.
  * CEGRIDOM_MOST_ENDS(n) places suffice: with so many, 7 never comes.
- * Time that of runs; 131 KiB of stack.
+ * Time that of runs and of judge a split; 1,522 KiB of stack.
  */
 uint32_t cegridom_path_of_split(const uint8_t *word, size_t n, uint32_t edition,
                                 const uint32_t *ends, size_t end_count, uint32_t *table,
@@ -339,7 +351,7 @@ uint32_t cegridom_path_of_split_16(const uint16_t *word, size_t n, uint32_t edit
  * blocks, exactly when the numbers are those of a path of length n in the edition's graph of the
  * runs.
  * Reads word and numbers. Refusals: 1; 12; 10; then for each end in turn 3, 4; then 5.
- * Time that of runs; 147 KiB of stack.
+ * Time that of runs and of judge a split; 1,522 KiB of stack.
  */
 uint32_t cegridom_judge_path(const uint8_t *word, size_t n, uint32_t edition,
                              const uint32_t *numbers, size_t number_count, uint32_t *blocks,
@@ -359,7 +371,7 @@ uint32_t cegridom_judge_path_16(const uint16_t *word, size_t n, uint32_t edition
  * Refusals: 1; 12; then for each end in turn 3, 4; then 5; then 7.
  * CEGRIDOM_PAGE_BYTES(end_count) bytes suffice, and CEGRIDOM_PAGE_BYTES(CEGRIDOM_MOST_ENDS(n)) for
  * every split.
- * Time that of runs, and linear in the bytes; 147 KiB of stack.
+ * Time that of path of a split, and linear in the bytes; 1,523 KiB of stack.
  */
 uint32_t cegridom_write_page(const uint8_t *word, size_t n, uint32_t edition, const uint32_t *ends,
                              size_t end_count, uint8_t *out, size_t room, uint32_t *bytes,
@@ -369,21 +381,29 @@ uint32_t cegridom_write_page_16(const uint16_t *word, size_t n, uint32_t edition
                                 uint32_t *bytes, uint32_t *index);
 
 /*
- * Write a plan: writes the plan line of n and the ends to out, and gives its count of bytes. The
- * line is "plan", n, the number of ends and each end, in four digits each, parted by commas, then
- * byte 10. A line carries no symbols, so it is not asked whether the pieces are blocks.
+ * Write a plan: writes the plan line of n and the ends to out, and gives its count of bytes. Where
+ * n is at most CEGRIDOM_LINE_LIMIT, the line is "plan", n, the number of ends and each end, in four
+ * digits each, parted by commas, then byte 10; where n is above, it begins with "long" instead and
+ * has six digits a number. A line carries no symbols, so it is not asked whether the pieces are
+ * blocks.
  * n is 32 bits wide, while a length is a size_t: 2^32 + 8 handed over is narrowed and taken for 8,
  * without a warning, so compare a length with CEGRIDOM_LIMIT first.
  * Reads ends; changes the first bytes bytes of out. Refusals: 1; 3 for each end; 5; 7.
+ * CEGRIDOM_LINE_BYTES(n, end_count) bytes suffice, and CEGRIDOM_LONG_BYTES(end_count) for every n.
  * Time linear in the line.
  */
 uint32_t cegridom_write_plan(uint32_t n, const uint32_t *ends, size_t end_count, uint8_t *out,
                              size_t room, uint32_t *bytes, uint32_t *index);
 
 /*
- * Read a plan: writes the ends of a plan line to table, and gives its n and the count of ends.
+ * Read a plan: writes the ends of a plan line to table, and gives its n and the count of ends. The
+ * line is of either kind, as cegridom_write_plan writes it. Each plan has one line: one that begins
+ * with "long" and has an n of CEGRIDOM_LINE_LIMIT or less is none, whatever else is wrong with it,
+ * which is 11; one that begins with "plan" and has a greater n gives 1, and so does one that begins
+ * with "long" and has an n above CEGRIDOM_LIMIT.
  * Reads line; changes the first count places of table. Refusals: 11; 1; 3 for each end; 5; 7.
- * CEGRIDOM_PLAN_ENDS(length) places suffice, and CEGRIDOM_LIMIT for every line.
+ * CEGRIDOM_PLAN_ENDS(length) places suffice for a line of either kind, and CEGRIDOM_LIMIT for every
+ * line.
  * Time linear in the line.
  */
 uint32_t cegridom_read_plan(const uint8_t *line, size_t length, uint32_t *table, size_t places,

@@ -10,8 +10,9 @@
 //! The second times only the calls whose names have that word. `cargo test --benches` compares the
 //! answers and times nothing. A second table has each call on words of 8 symbols. With write a page
 //! comes one more: what it takes beyond path of a split, for each block. With which first and first
-//! block another: what they take of the time of two fewest splits, of each the median batch. The last
-//! has each call on words of bytes and on the same numbers as 16-bit codes.
+//! block another: what they take of the time of two fewest splits, of each the median batch. One more
+//! has each call on words of bytes and on the same numbers as 16-bit codes. The last two have each
+//! call on words up to the limit, in fewer batches, and on bytes and codes at the limit.
 //!
 //! A call that is told an edition has a row for each, on the same words. Of random words several are
 //! taken in turn. Buffers are allocated once and not cleared between calls. Each figure is processor
@@ -27,6 +28,9 @@ use std::hint::black_box;
 use words::{fibonacci, last_differs, thue_morse};
 
 const LENGTHS: [usize; 4] = [512, 1024, 2048, 4096];
+/// The last is the limit; the others are for the growth.
+const LONG_LENGTHS: [usize; 4] = [4096, 17_500, 35_000, 70_000];
+const LONG_DOUBLINGS: f64 = 2.0;
 const SHORT: usize = 8;
 /// Random words of so many symbols together are taken in turn, at most so many words.
 const DIFFERENT_SYMBOLS: usize = 1 << 18;
@@ -35,6 +39,8 @@ const DOUBLINGS: f64 = 3.0;
 const BATCHES: usize = 11;
 /// More, where a small difference of two times is wanted.
 const CLOSE_BATCHES: usize = 33;
+/// Fewer, where a call takes up to a fifth of a second.
+const LONG_BATCHES: usize = 3;
 /// A batch is as many calls as take at least this long.
 const BATCH_SECONDS: f64 = 0.004;
 /// What a call may take of its twin's time.
@@ -135,6 +141,15 @@ const FAMILIES: [Family; 8] = [
     Family::one("(a²⁵⁵b)…", |n, _| period_256(n)),
 ];
 
+/// Equal symbols but for few of them: nearly every boundary is reached, and many windows have one unit.
+fn rare(n: usize) -> Vec<u8> {
+    let differs = |i: usize| (i.wrapping_mul(2_654_435_761) >> 7) % 97 == 0;
+    (0..n).map(|i| b'a' + differs(i) as u8).collect()
+}
+
+/// Words that are taken at long lengths beside the others.
+const LONG_FAMILIES: [Family; 1] = [Family::one("a with rare b", |n, _| rare(n))];
+
 /// Random units over two symbols, of up to eight of them, each twice; n is even.
 fn squares(n: usize) -> Vec<u8> {
     let symbols = random(n, 2);
@@ -197,7 +212,7 @@ impl Buffers {
             table: vec![0; raw::RUN_PLACES * n],
             work: vec![0; cegridom::work_places(n)],
             page: vec![0; cegridom::page_bytes(cegridom::most_ends(n))],
-            line: vec![0; cegridom::plan_bytes(n)],
+            line: vec![0; cegridom::line_bytes(n, n)],
         }
     }
 }
@@ -1115,6 +1130,194 @@ fn time_widths(calls: impl Iterator<Item = &'static Call>) {
     }
 }
 
+/// The words that a call is tried on at long lengths.
+fn long_families<S>(call: &Call<S>) -> impl Iterator<Item = &'static Family> {
+    let more = match call.on {
+        On::Word | On::TwoWords => &LONG_FAMILIES[..],
+        On::Ends => &[],
+    };
+    families(call).iter().chain(more)
+}
+
+/// One word of a family: a long one is not learnt by the processor.
+fn one_input<S: Kind>(family: &Family, n: usize, edition: Edition) -> [Input<S>; 1] {
+    [Input::new(spelt((family.word)(n, 0)), edition)]
+}
+
+/// The time of one call, over as many turns as take long enough.
+fn long_batch<S>(
+    call: fn(&Input<S>, &mut Buffers) -> Answer,
+    input: &[Input<S>; 1],
+    buffers: &mut Buffers,
+) -> f64 {
+    let once = batch(call, input, buffers, 1);
+    match (BATCH_SECONDS / once).ceil() as usize {
+        0 | 1 => once,
+        turns => batch(call, input, buffers, turns),
+    }
+}
+
+/// One call on a family's word at the long lengths, in one edition.
+struct LongRow {
+    call: &'static str,
+    edition: Option<Edition>,
+    word: String,
+    /// The library's times, in seconds.
+    times: [f64; LONG_LENGTHS.len()],
+    /// At the last length: the twin's, that on codes if they were taken, and what all answered.
+    twin: f64,
+    codes: Option<f64>,
+    given: Answer,
+}
+
+impl LongRow {
+    /// The longest word as codes too, for a call that takes a word.
+    fn new(
+        call: &'static Call,
+        family: &Family,
+        edition: Edition,
+        inputs: &[[Input; 1]; LONG_LENGTHS.len()],
+        codes: Option<(&'static Call<u16>, &[Input<u16>; 1])>,
+    ) -> LongRow {
+        let mut times = [f64::MAX; LONG_LENGTHS.len()];
+        let last = LONG_LENGTHS.len() - 1;
+        for (time, input) in times.iter_mut().zip(&inputs[..last]) {
+            let mut buffers = Buffers::new(input[0].word.len());
+            let batches = (0..LONG_BATCHES).map(|_| long_batch(call.library, input, &mut buffers));
+            *time = batches.fold(f64::MAX, f64::min);
+        }
+        let n = LONG_LENGTHS[last];
+        let (mut ours, mut theirs) = (Buffers::new(n), Buffers::new(n));
+        let given = agreed(call, &inputs[last][0], &mut ours, &mut theirs);
+        if let Some((codes, input)) = codes {
+            let same = (codes.library)(&input[0], &mut ours);
+            assert_eq!(given, same, "{}", call.name);
+        }
+        let (mut twin, mut of_codes) = (f64::MAX, f64::MAX);
+        for _ in 0..LONG_BATCHES {
+            times[last] = times[last].min(long_batch(call.library, &inputs[last], &mut ours));
+            twin = twin.min(long_batch(call.twin, &inputs[last], &mut theirs));
+            if let Some((codes, input)) = codes {
+                of_codes = of_codes.min(long_batch(codes.library, input, &mut ours));
+            }
+        }
+        LongRow {
+            call: call.name,
+            edition: call.in_editions.then_some(edition),
+            word: match call.on {
+                On::Word => family.name.to_string(),
+                On::TwoWords => format!("{}; Fibonacci", family.name),
+                On::Ends => "every second end".to_string(),
+            },
+            times,
+            twin,
+            codes: codes.map(|_| of_codes),
+            given,
+        }
+    }
+
+    fn longest(&self) -> f64 {
+        self.times[LONG_LENGTHS.len() - 1]
+    }
+
+    fn growth(&self) -> f64 {
+        (self.longest() / self.times[1]).powf(1.0 / LONG_DOUBLINGS)
+    }
+
+    fn ratio(&self) -> f64 {
+        self.longest() / self.twin
+    }
+
+    fn print(&self) {
+        let times = self.times.map(|t| format!("{:.1}", t * MICRO)).join(" | ");
+        println!(
+            "| {} | {} | {} | {} | {times} | {:.2} | {:.1} | {:.2} |",
+            self.call,
+            told(self.edition),
+            self.word,
+            said(&self.given),
+            self.growth(),
+            self.twin * MICRO,
+            self.ratio()
+        );
+    }
+}
+
+/// Every call on long words; what these are given takes its time, and is made once for all calls.
+fn long_rows(calls: impl Iterator<Item = &'static Call> + Clone) -> Vec<LongRow> {
+    let longest = LONG_LENGTHS[LONG_LENGTHS.len() - 1];
+    let mut rows = Vec::new();
+    for family in FAMILIES.iter().chain(&LONG_FAMILIES) {
+        for edition in [Edition::One, Edition::Two] {
+            let inputs = LONG_LENGTHS.map(|n| one_input(family, n, edition));
+            // The widths are compared in edition 1.
+            let codes = (edition == Edition::One).then(|| one_input(family, longest, edition));
+            for call in calls.clone() {
+                let taken = long_families(call).any(|f| f.name == family.name);
+                if !taken || !editions(call).contains(&edition) {
+                    continue;
+                }
+                let same = of_both([call].into_iter()).next().map(|(_, codes)| codes);
+                let codes = same.zip(codes.as_ref());
+                rows.push(LongRow::new(call, family, edition, &inputs, codes));
+            }
+        }
+    }
+    // In the order of the calls; those of one call stay in theirs.
+    rows.sort_by_key(|row| CALLS.iter().position(|call| call.name == row.call));
+    rows
+}
+
+fn time_long(calls: impl Iterator<Item = &'static Call> + Clone) {
+    let rows = long_rows(calls);
+    println!("\nTime of one call in microseconds on long words, by the length of the word, or of each of two: the least of {LONG_BATCHES} batches; growth is the factor for each doubling, on average from 17,500 to 70,000 symbols; ratio is the library's time over the twin's at 70,000. Splits, paths and squares that are judged are chosen as in the first table.\n");
+    println!("| call | edition | word | answer | 4,096 | 17,500 | 35,000 | 70,000 | growth | twin, 70,000 | ratio |");
+    println!("|---|---|---|---|--:|--:|--:|--:|--:|--:|--:|");
+    rows.iter().for_each(LongRow::print);
+    for call in CALLS.iter() {
+        let named = || rows.iter().filter(|row| row.call == call.name);
+        if named().next().is_some() {
+            println!(
+                "\n{}: worst of 70,000 symbols {:.2} ms, worst growth {:.2}, worst ratio {:.2}.",
+                call.name,
+                greatest(named().map(LongRow::longest)) * MILLI,
+                greatest(named().map(LongRow::growth)),
+                greatest(named().map(LongRow::ratio))
+            );
+        }
+    }
+    println!("\nThe same, in edition 1, on a word of bytes and on the same numbers as 16-bit codes, of 70,000 symbols, or two of them; ratio is the time on codes over that on bytes.\n");
+    println!("| call | word | bytes, 70,000 | codes, 70,000 | ratio |");
+    println!("|---|---|--:|--:|--:|");
+    let mut worst = 0.0f64;
+    for row in &rows {
+        if let Some(codes) = row.codes {
+            let (bytes, ratio) = (row.longest(), codes / row.longest());
+            worst = worst.max(ratio);
+            let [bytes, codes] = [bytes, codes].map(|t| t * MICRO);
+            println!(
+                "| {} | {} | {bytes:.1} | {codes:.1} | {ratio:.2} |",
+                row.call, row.word
+            );
+        }
+    }
+    println!("\nWorst {worst:.2} of the time on bytes, at 70,000 symbols.");
+}
+
+/// The answers on one word of each family, just over the length of a plan line of four digits.
+fn compare_long<S: Kind>(calls: impl Iterator<Item = &'static Call<S>>) {
+    let n = cegridom::LINE_LIMIT + 2;
+    for call in calls {
+        for family in long_families(call) {
+            for &edition in editions(call) {
+                let (mut ours, mut theirs) = (Buffers::new(n), Buffers::new(n));
+                let [input] = one_input(family, n, edition);
+                agreed(call, &input, &mut ours, &mut theirs).ok();
+            }
+        }
+    }
+}
+
 fn greatest(figures: impl Iterator<Item = f64>) -> f64 {
     figures.fold(0.0, f64::max)
 }
@@ -1202,10 +1405,13 @@ fn main() {
         if pairs {
             time_pairs();
         }
-        time_widths(chosen);
+        time_widths(chosen.clone());
+        time_long(chosen);
     } else {
         compare(chosen.clone());
-        compare(chosen_16);
+        compare(chosen_16.clone());
+        compare_long(chosen.clone());
+        compare_long(chosen_16);
         compare_widths(chosen);
         if pages {
             compare_pages();

@@ -199,7 +199,7 @@ pub fn part_into<S: Symbol>(
 /// place `i` of the table has the number `i + 1`.
 ///
 /// Refusals: 1, 7. A table of [`most_runs`](crate::most_runs) runs never gets 7. Time at most
-/// n log n in the length n, with one more logarithm on powers; 67 KiB of stack.
+/// n log n in the length n, with one more logarithm on powers; 1,246 KiB of stack.
 ///
 /// ```
 /// use cegridom::{runs_into, Run};
@@ -223,7 +223,7 @@ pub fn runs_into<S: Symbol>(word: &[S], table: &mut [Run]) -> Result<usize, Refu
 /// [`UNIT_MEMORY`](crate::UNIT_MEMORY) has none.
 ///
 /// Refusals: 1, 6, 7. A table of [`most_runs`](crate::most_runs) numbers never gets 7. Time that of
-/// [`runs_into`]; 131 KiB of stack.
+/// [`runs_into`]; 1,521 KiB of stack.
 ///
 /// ```
 /// use cegridom::{nodes_into, Edition};
@@ -254,7 +254,7 @@ pub fn nodes_into<S: Symbol>(
 ///
 /// Refusals: 1, 9, 2, 7. [`most_ends`](crate::most_ends) places for the ends never get 7. Time at
 /// most proportional to the length times 512, in edition 2 times 768; 48 bytes of stack a block of
-/// the split, 97 KiB at most.
+/// the split, 1.7 MB at most.
 ///
 /// The working table needs [`work_places`](crate::work_places) places, and those past them never
 /// change. After an answer, and after 2 and 7 too, its first `n + 1` places hold the best size of
@@ -308,8 +308,8 @@ pub fn best_split_into<S: Symbol>(
 /// on. A word of odd length has none.
 ///
 /// Refusals: 1, 9, 2, 7. [`most_ends`](crate::most_ends) places for the ends never get 7. Time
-/// that of [`runs_into`], and a step for each run and each symbol in it; 67 KiB of stack and 48 bytes
-/// a square of the split, 161 KiB at most.
+/// that of [`runs_into`], and a step for each run and each symbol in it; 1,248 KiB of stack, or 48
+/// bytes a square of the split where that is more, 1.7 MB at most.
 ///
 /// The working table needs [`work_places`](crate::work_places) places, and those past them never
 /// change. After an answer, and after 2 and 7 too, its first `n + 1` places hold the best size of
@@ -515,8 +515,8 @@ pub fn judge_squares<S: Symbol>(word: &[S], ends: &[u32]) -> Result<usize, Refus
 /// one run that encloses the block and has its unit.
 ///
 /// Refusals: 1; then for each end in turn 3, 4; then 5; then 7. A table of
-/// [`most_ends`](crate::most_ends) numbers never gets 7. Time that of [`runs_into`]; 131 KiB of
-/// stack.
+/// [`most_ends`](crate::most_ends) numbers never gets 7. Time that of [`runs_into`] and of
+/// [`judge_split`]; 1,522 KiB of stack.
 ///
 /// ```
 /// use cegridom::{path_of_split_into, Edition};
@@ -546,8 +546,8 @@ pub fn path_of_split_into<S: Symbol>(
 /// Judges a path in the edition's graph of the runs: the number of its blocks, or what is wrong with
 /// it.
 ///
-/// Refusals: 1; then for each end in turn 3, 4; then 5. Time that of [`runs_into`]; 147 KiB of
-/// stack.
+/// Refusals: 1; then for each end in turn 3, 4; then 5. Time that of [`runs_into`] and of
+/// [`judge_split`]; 1,522 KiB of stack.
 ///
 /// ```
 /// use cegridom::{judge_path, Edition, Refusal, Step};
@@ -583,8 +583,8 @@ pub fn judge_path<S: Symbol>(
 /// lower-case hexadecimal digits, at most nine bytes of two digits each or four 16-bit symbols of
 /// four digits each, and then spaces.
 ///
-/// Refusals: 1; then for each end in turn 3, 4; then 5; then 7. Time that of [`runs_into`], and
-/// linear in the bytes; 147 KiB of stack.
+/// Refusals: 1; then for each end in turn 3, 4; then 5; then 7. Time that of
+/// [`path_of_split_into`], and linear in the bytes; 1,523 KiB of stack.
 ///
 /// ```
 /// use cegridom::{page_bytes, write_page_into, Edition};
@@ -619,16 +619,21 @@ pub fn write_page_into<S: Symbol>(
     })
 }
 
-/// Writes the plan line of a word's length and the ends of a split, and gives its count of bytes.
-/// The line carries no symbols, so it is not asked whether the pieces are blocks.
+/// Writes the plan line of a word's length and the ends of a split, and gives its count of bytes,
+/// [`line_bytes`](crate::line_bytes). Up to [`LINE_LIMIT`](crate::LINE_LIMIT) symbols the line begins
+/// with `plan` and has four digits a number, above with `long` and six. It carries no symbols, so it
+/// is not asked whether the pieces are blocks.
 ///
 /// Refusals: 1, also where `n` is more than 32 bits hold; 3 for each end; 5; 7. Time linear in the
 /// line.
 ///
 /// ```
-/// let mut out = [b'.'; 26];
+/// let mut out = [b'.'; 27];
 /// assert_eq!(cegridom::write_plan_into(8, &[2, 8], &mut out), Ok(25));
-/// assert_eq!(&out, b"plan,0008,0002,0002,0008\n.");
+/// assert_eq!(&out, b"plan,0008,0002,0002,0008\n..");
+///
+/// assert_eq!(cegridom::write_plan_into(68_000, &[68_000], &mut out), Ok(26));
+/// assert_eq!(&out, b"long,068000,000001,068000\n.");
 /// ```
 pub fn write_plan_into(n: usize, ends: &[u32], out: &mut [u8]) -> Result<usize, Refusal> {
     // What does not fit is too long, and so is the greatest number that does.
@@ -641,15 +646,26 @@ pub fn write_plan_into(n: usize, ends: &[u32], out: &mut [u8]) -> Result<usize, 
     })
 }
 
-/// Reads a plan line: writes the ends, and gives the word's length and how many ends there are.
+/// Reads a plan line of either kind: writes the ends, and gives the word's length and how many ends
+/// there are. Each plan has one line: one of six digits a number whose length is
+/// [`LINE_LIMIT`](crate::LINE_LIMIT) or less is none, which is 11, and one of four digits whose
+/// length is above it gives 1.
 ///
-/// Refusals: 11; then 1; 3 for each end; 5; 7. Time linear in the line.
+/// Refusals: 11; then 1; 3 for each end; 5; 7. [`line_ends`](crate::line_ends) places for the ends
+/// never get 7. Time linear in the line.
 ///
 /// ```
+/// use cegridom::{read_plan_into, Refusal};
+///
 /// let mut table = [9; 3];
 /// let line = b"plan,0008,0002,0002,0008\n";
-/// assert_eq!(cegridom::read_plan_into(line, &mut table), Ok((8, 2)));
+/// assert_eq!(read_plan_into(line, &mut table), Ok((8, 2)));
 /// assert_eq!(table, [2, 8, 9]);
+///
+/// assert_eq!(read_plan_into(b"long,068000,000001,068000\n", &mut table), Ok((68_000, 1)));
+/// assert_eq!(table, [68_000, 8, 9]);
+/// let needless = read_plan_into(b"long,000008,000001,000008\n", &mut table);
+/// assert_eq!(needless, Err(Refusal::NotPlan));
 /// ```
 pub fn read_plan_into(line: &[u8], table: &mut [u32]) -> Result<(usize, usize), Refusal> {
     let (length, line) = (line.len(), line.as_ptr());

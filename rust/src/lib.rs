@@ -42,16 +42,18 @@
 //! [`judge_split`], [`judge_squares`], [`judge_path`], [`version`] and the functions named
 //! `.._into`, which work in tables that the caller lends, allocate nothing. The others allocate
 //! their tables; they come with the feature `alloc`, which is on by default. Without it the crate
-//! needs `core` alone. The archive needs the C library's `memset` and `memcpy` and nothing else.
+//! needs `core` alone. The archive needs the C library's `memset` and nothing else.
 //!
 //! How large a lent table must be is known before a call: [`most_runs`], [`most_ends`],
-//! [`work_places`], [`page_bytes`] and [`plan_bytes`] give sizes that suffice.
+//! [`work_places`], [`page_bytes`], [`line_bytes`] and [`line_ends`] give sizes that suffice.
 //!
 //! No call keeps state, so any number of threads may call at once. What the archive takes of the
-//! stack is said in the text of each function, 161 KiB at most; where nothing is said, it is under
-//! 450 bytes. These figures are for 16-bit symbols: bytes are widened once, on the stack, which takes
-//! 9 KiB more, or 17 where there are two words. Only the functions on a part and [`judge_split`] and
-//! [`judge_squares`] go over the bytes themselves.
+//! stack for the longest words is said in the text of each function; where nothing is said, it is
+//! under 1 KiB. No function takes more than 108 KiB for up to 4,096 symbols, and 16 KiB for up to 64.
+//! None takes more than 1.5 MiB but those that write a best split, into blocks or squares, which take
+//! 48 bytes a block: 1.7 MB for 35,000 blocks, the most that there are. A thread of 2 MiB, which is
+//! what the standard library gives one, is enough for every call. The figures are of bytes; 16-bit
+//! codes take as much or less.
 //!
 //! # What is proved
 //!
@@ -90,7 +92,11 @@ pub use refusal::Refusal;
 pub use symbol::Symbol;
 
 /// The longest word that the library takes.
-pub const LIMIT: usize = 4096;
+pub const LIMIT: usize = 70_000;
+
+/// The longest word that a plan line of four digits a number is for; the line of a longer one has six
+/// digits a number.
+pub const LINE_LIMIT: usize = 4096;
 
 /// The longest unit of a block, in both editions: what unit memory holds.
 pub const UNIT_MEMORY: u32 = 256;
@@ -146,13 +152,56 @@ pub const fn page_bytes(blocks: usize) -> usize {
     blocks.saturating_mul(raw::PAGE_LINE_BYTES)
 }
 
-/// The bytes of a plan line with `k` ends.
+/// The bytes of a plan line of four digits a number with `k` ends, the line of a word of at most
+/// [`LINE_LIMIT`] symbols.
 ///
 /// ```
 /// assert_eq!(cegridom::plan_bytes(2), b"plan,0008,0002,0002,0008\n".len());
 /// ```
 pub const fn plan_bytes(k: usize) -> usize {
     k.saturating_mul(5).saturating_add(15)
+}
+
+/// The bytes of a plan line of six digits a number with `k` ends, the line of a word of more than
+/// [`LINE_LIMIT`] symbols. So many are enough for a line of either kind.
+///
+/// ```
+/// assert_eq!(cegridom::long_bytes(1), b"long,068000,000001,068000\n".len());
+/// ```
+pub const fn long_bytes(k: usize) -> usize {
+    k.saturating_mul(7).saturating_add(19)
+}
+
+/// The bytes of the plan line with `k` ends of a word of `n` symbols: [`plan_bytes`] up to
+/// [`LINE_LIMIT`] symbols, [`long_bytes`] above.
+///
+/// ```
+/// use cegridom::{line_bytes, long_bytes, plan_bytes};
+///
+/// assert_eq!(line_bytes(4096, 3), plan_bytes(3));
+/// assert_eq!(line_bytes(4097, 3), long_bytes(3));
+/// ```
+pub const fn line_bytes(n: usize, k: usize) -> usize {
+    if n > LINE_LIMIT {
+        long_bytes(k)
+    } else {
+        plan_bytes(k)
+    }
+}
+
+/// Ends that suffice for every plan line of so many bytes, of either kind: no such line has more.
+/// [`LIMIT`] of them suffice for every line.
+///
+/// ```
+/// use cegridom::{line_ends, long_bytes, plan_bytes};
+///
+/// assert_eq!(line_ends(plan_bytes(2)), 2);
+/// assert!(line_ends(long_bytes(2)) >= 2);
+/// assert_eq!(line_ends(3), 0);
+/// ```
+pub const fn line_ends(bytes: usize) -> usize {
+    // A line of four digits has the more ends for its bytes.
+    bytes.saturating_sub(plan_bytes(0)) / (plan_bytes(1) - plan_bytes(0))
 }
 
 #[cfg(all(doctest, feature = "alloc"))]

@@ -1,8 +1,8 @@
 //! The calls that allocate their tables.
 
 use crate::{
-    best_split_into, best_squares_into, first_block_into, most_ends, most_runs, nodes_into,
-    page_bytes, part_into, path_of_split_into, plan_bytes, read_plan_into, runs_into,
+    best_split_into, best_squares_into, first_block_into, line_bytes, line_ends, most_ends,
+    most_runs, nodes_into, page_bytes, part_into, path_of_split_into, read_plan_into, runs_into,
     which_first_into, work_places, write_page_into, write_plan_into, Choice, Edition, Part,
     Refusal, Run, Symbol, Which, LIMIT, NONE,
 };
@@ -129,7 +129,7 @@ pub fn units<S: Symbol>(word: &[S], first: u32, last: u32) -> Result<Vec<u32>, R
 
 /// The runs of a word, by first and then by unit; run number `i` is at place `i - 1`.
 ///
-/// Refusal: 1. Allocates [`most_runs`] runs while it works; 67 KiB of stack.
+/// Refusal: 1. Allocates [`most_runs`] runs while it works; 1,246 KiB of stack.
 ///
 /// ```
 /// let runs = cegridom::runs(b"aabaabaa").unwrap();
@@ -158,7 +158,7 @@ pub fn runs<S: Symbol>(word: &[S]) -> Result<Vec<Run>, Refusal> {
 /// have two whole turns (in edition 2, three) up to it, of a unit of at most
 /// [`UNIT_MEMORY`](crate::UNIT_MEMORY) symbols.
 ///
-/// Refusals: 1, 6. Allocates [`most_runs`] numbers while it works; 131 KiB of stack.
+/// Refusals: 1, 6. Allocates [`most_runs`] numbers while it works; 1,521 KiB of stack.
 ///
 /// ```
 /// use cegridom::{nodes, Edition, Refusal};
@@ -177,7 +177,7 @@ pub fn nodes<S: Symbol>(word: &[S], edition: Edition, position: u32) -> Result<V
 /// one whose last block is longest, then the one before it, and so on.
 ///
 /// Refusals: 1, 2. Allocates [`most_ends`] and [`work_places`] numbers while it works; 48 bytes of
-/// stack a block of the split, 97 KiB at most.
+/// stack a block of the split, 1.7 MB at most.
 ///
 /// ```
 /// use cegridom::{best_split, Choice, Edition, Refusal};
@@ -228,8 +228,8 @@ pub fn best_sizes<S: Symbol>(
 /// not be primitive. Of the splits of that size it is the one whose last square is longest, then the
 /// one before it, and so on. A word of odd length has none.
 ///
-/// Refusals: 1, 2. Allocates [`most_ends`] and [`work_places`] numbers while it works; 67 KiB of
-/// stack and 48 bytes a square of the split, 161 KiB at most.
+/// Refusals: 1, 2. Allocates [`most_ends`] and [`work_places`] numbers while it works; 1,248
+/// KiB of stack, or 48 bytes a square of the split where that is more, 1.7 MB at most.
 ///
 /// ```
 /// use cegridom::{best_squares, Choice, Refusal};
@@ -319,7 +319,7 @@ pub fn first_block<'a, S: Symbol>(a: &'a [S], b: &'a [S], edition: Edition) -> &
 /// The run number of each block of a split: that of the one run that encloses the block and has its
 /// unit.
 ///
-/// Refusals: 1; then for each end in turn 3, 4; then 5. Allocates its answer; 131 KiB of stack.
+/// Refusals: 1; then for each end in turn 3, 4; then 5. Allocates its answer; 1,522 KiB of stack.
 ///
 /// ```
 /// use cegridom::{judge_path, path_of_split, Edition, Step};
@@ -346,7 +346,7 @@ pub fn path_of_split<S: Symbol>(
 /// digits, nine bytes or four 16-bit symbols. The text of [`write_page_into`] says how a line is laid
 /// out.
 ///
-/// Refusals: 1; then for each end in turn 3, 4; then 5. Allocates its answer; 147 KiB of stack.
+/// Refusals: 1; then for each end in turn 3, 4; then 5. Allocates its answer; 1,523 KiB of stack.
 ///
 /// ```
 /// use cegridom::{write_page, Edition, Refusal};
@@ -374,8 +374,9 @@ pub fn write_page<S: Symbol>(
     Ok(front(out, bytes))
 }
 
-/// The plan line of a word's length and the ends of a split. The line carries no symbols, so it is
-/// not asked whether the pieces are blocks.
+/// The plan line of a word's length and the ends of a split. Up to [`LINE_LIMIT`](crate::LINE_LIMIT)
+/// symbols it begins with `plan` and has four digits a number, above with `long` and six. The line
+/// carries no symbols, so it is not asked whether the pieces are blocks.
 ///
 /// Refusals: 1, also where `n` is more than 32 bits hold; 3 for each end; 5. Allocates its answer.
 ///
@@ -384,15 +385,21 @@ pub fn write_page<S: Symbol>(
 ///
 /// assert_eq!(write_plan(8, &[2, 8]).unwrap(), b"plan,0008,0002,0002,0008\n");
 /// assert_eq!(write_plan(8, &[2]), Err(Refusal::Unfinished));
+///
+/// let mast = write_plan(68_000, &[4096, 68_000]).unwrap();
+/// assert_eq!(mast, b"long,068000,000002,004096,068000\n");
+/// assert_eq!(write_plan(70_001, &[70_001]), Err(Refusal::TooLong));
 /// ```
 pub fn write_plan(n: usize, ends: &[u32]) -> Result<Vec<u8>, Refusal> {
     // Ends that rise to n are at most n of them; more are refused whatever is lent.
-    let mut out = vec![0; plan_bytes(ends.len().min(allowed(n)))];
+    let mut out = vec![0; line_bytes(allowed(n), ends.len().min(allowed(n)))];
     let bytes = write_plan_into(n, ends, &mut out)?;
     Ok(front(out, bytes))
 }
 
-/// Reads a plan line.
+/// Reads a plan line of either kind. Each plan has one line: one of six digits a number whose length
+/// is [`LINE_LIMIT`](crate::LINE_LIMIT) or less is none, which is 11, and one of four digits whose
+/// length is above it gives 1.
 ///
 /// Refusals: 11; then 1; 3 for each end; 5. Allocates its answer.
 ///
@@ -402,10 +409,15 @@ pub fn write_plan(n: usize, ends: &[u32]) -> Result<Vec<u8>, Refusal> {
 /// let plan = read_plan(b"plan,0008,0002,0002,0008\n").unwrap();
 /// assert_eq!((plan.n, plan.ends), (8, vec![2, 8]));
 /// assert_eq!(read_plan(b"plan,8,0\n"), Err(Refusal::NotPlan));
+///
+/// let mast = read_plan(b"long,068000,000002,004096,068000\n").unwrap();
+/// assert_eq!((mast.n, mast.ends), (68_000, vec![4096, 68_000]));
+/// assert_eq!(read_plan(b"long,004096,000001,004096\n"), Err(Refusal::NotPlan));
+/// assert_eq!(read_plan(b"plan,4097,0001,4097\n"), Err(Refusal::TooLong));
+/// assert_eq!(read_plan(b"long,070001,000001,070001\n"), Err(Refusal::TooLong));
 /// ```
 pub fn read_plan(line: &[u8]) -> Result<Plan, Refusal> {
-    let ends_within = line.len().saturating_sub(plan_bytes(0)) / (plan_bytes(1) - plan_bytes(0));
-    let mut ends = vec![0; ends_within.min(LIMIT)];
+    let mut ends = vec![0; line_ends(line.len()).min(LIMIT)];
     let (n, count) = read_plan_into(line, &mut ends)?;
     Ok(Plan {
         n,

@@ -1,6 +1,6 @@
 //! Why a call refused.
 
-use crate::LIMIT;
+use crate::{LIMIT, LINE_LIMIT};
 use core::error::Error;
 use core::fmt;
 
@@ -16,7 +16,8 @@ use core::fmt;
 #[derive(Clone, Copy, Debug, PartialEq, Eq, Hash)]
 #[non_exhaustive]
 pub enum Refusal {
-    /// 1: the word, or either of two, is longer than [`LIMIT`].
+    /// 1: the word, or either of two, is longer than [`LIMIT`]; in a plan line of four digits a
+    /// number, than [`LINE_LIMIT`].
     TooLong,
     /// 2: no split exists; of two words, neither has one; for squares, no split into squares.
     NoSplit,
@@ -46,7 +47,8 @@ pub enum Refusal {
     /// 10: a path with an odd count of numbers. Only the functions in [`raw`](crate::raw) take such
     /// a one.
     OddPath,
-    /// 11: bytes that are not one plan line, or whose count of ends differs from the one stated.
+    /// 11: bytes that are not one plan line, or whose count of ends differs from the one stated. A
+    /// line of six digits a number whose length is [`LINE_LIMIT`] or less is none.
     NotPlan,
     /// 12: an edition other than 1 or 2. Only the functions in [`raw`](crate::raw) take such a one.
     BadEdition,
@@ -123,7 +125,10 @@ impl Refusal {
 impl fmt::Display for Refusal {
     fn fmt(&self, f: &mut fmt::Formatter<'_>) -> fmt::Result {
         match self {
-            Refusal::TooLong => write!(f, "a word is longer than {LIMIT}"),
+            Refusal::TooLong => write!(
+                f,
+                "a word is longer than {LIMIT} (in a plan line of four digits, than {LINE_LIMIT})"
+            ),
             Refusal::NoSplit => write!(f, "no split exists"),
             Refusal::BadEnd { index } => write!(
                 f,

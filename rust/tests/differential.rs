@@ -6,12 +6,15 @@
 //!
 //! One comparison is one call with all of that. Each test prints how many it made.
 
+mod lengths;
 mod reference;
 mod words;
 
 use cegridom::{raw, Choice, Edition, Refusal, Step, Symbol, Which};
 use reference::Outcome::{self, Accepted, Refused};
-use reference::{Best, Code, Rule, Run, EDITIONS, LIMIT, NONE, RUN_PLACES, UNIT_MEMORY};
+use reference::{
+    Best, Code, Rule, Run, EDITIONS, LIMIT, LINE_LIMIT, NONE, PLAIN, RUN_PLACES, UNIT_MEMORY,
+};
 use words::{every_word, fibonacci, last_differs, thue_morse};
 
 /// What stands in a value before a call, and beside a table.
@@ -132,18 +135,25 @@ impl<'a, S: Kind> Known<'a, S> {
                 bests: Default::default(),
             };
         }
+        let bests = match word.len() {
+            0..=PLAIN => reference::bests(word, UNIT_MEMORY),
+            _ => reference::long::bests(word, UNIT_MEMORY),
+        };
         Known {
-            word,
-            runs: reference::runs(word),
-            bests: reference::bests(word, UNIT_MEMORY),
+            bests,
+            ..Known::unsplit(word)
         }
     }
 
     /// Without best splits, for a word that no call is to split.
     fn unsplit(word: &'a [S]) -> Known<'a, S> {
+        let runs = match word.len() {
+            0..=PLAIN => reference::runs(word),
+            _ => reference::long::runs(word),
+        };
         Known {
             word,
-            runs: reference::runs(word),
+            runs,
             bests: Default::default(),
         }
     }
@@ -169,7 +179,8 @@ struct Squared<'a, S = u8> {
 impl<'a, S: Kind> Squared<'a, S> {
     fn of(word: &'a [S]) -> Squared<'a, S> {
         let bests = match word.len() {
-            0..=LIMIT => reference::best_squares(word),
+            0..=PLAIN => reference::best_squares(word),
+            n @ ..=LIMIT => reference::long::best_squares(n, &reference::long::runs(word)),
             _ => Default::default(),
         };
         Squared { word, bests }
@@ -1101,7 +1112,7 @@ fn roots_go_by_symbol_codes() {
 fn roots_of_long_units() {
     let mut checker = Checker::default();
     let mut numbers = Numbers(6_364_136_223);
-    for (length, starts) in [(20, 20), (233, 40), (1000, 5), (LIMIT / 2, 2)] {
+    for (length, starts) in [(20, 20), (233, 40), (1000, 5), (PLAIN / 2, 2)] {
         let near = length / 2 - 1;
         let mut agreeing = vec![b'a'; length];
         (agreeing[near], agreeing[2 * near + 1]) = (b'c', b'b');
@@ -1118,7 +1129,7 @@ fn roots_of_long_units() {
         for unit in &units {
             for _ in 0..starts {
                 let start = numbers.below(length);
-                let symbols = (2 * length + numbers.below(length)).min(LIMIT);
+                let symbols = (2 * length + numbers.below(length)).min(PLAIN);
                 let turning = unit.iter().cycle().skip(start).take(symbols);
                 rooted(&mut checker, &turning.copied().collect::<Vec<u8>>());
             }
@@ -1258,13 +1269,13 @@ fn long_words_squares() {
 fn longest_words_squares() {
     let mut checker = Checker::default();
     let mut numbers = Numbers(2_862_933_555);
-    for w in structured(LIMIT) {
+    for w in structured(PLAIN) {
         long_squares(&mut checker, &mut numbers, &w, &[]);
     }
-    let w = last_differs(LIMIT / 2).repeat(2);
-    long_squares(&mut checker, &mut numbers, &w, &[LIMIT as u32]);
+    let w = last_differs(PLAIN / 2).repeat(2);
+    long_squares(&mut checker, &mut numbers, &w, &[PLAIN as u32]);
     for (longest, symbols) in [(1, 2), (40, 2), (300, 3)] {
-        let (w, ends) = numbers.squares(LIMIT, longest, symbols);
+        let (w, ends) = numbers.squares(PLAIN, longest, symbols);
         long_squares(&mut checker, &mut numbers, &w, &ends);
     }
     checker.report("squares of longest words");
@@ -1497,11 +1508,11 @@ fn longest_words_in_pairs() {
     let mut checker = Checker::default();
     let mut numbers = Numbers(123_456_789);
     let words = [
-        vec![b'a'; LIMIT],
-        fibonacci(LIMIT),
-        numbers.split(LIMIT, 2, 40, 3).0,
-        numbers.split(LIMIT, 3, 40, 3).0,
-        last_differs(LIMIT),
+        vec![b'a'; PLAIN],
+        fibonacci(PLAIN),
+        numbers.split(PLAIN, 2, 40, 3).0,
+        numbers.split(PLAIN, 3, 40, 3).0,
+        last_differs(PLAIN),
         b"aabb".to_vec(),
         vec![],
     ];
@@ -1643,7 +1654,7 @@ fn short_words_pages() {
 fn pages() {
     let mut checker = Checker::default();
     let mut numbers = Numbers(362_436_069);
-    for n in [12, 40, 99, 100, 500, 999, 1000, LIMIT] {
+    for n in [12, 40, 99, 100, 500, 999, 1000, PLAIN] {
         for longest in [1, 8, 12, n / 3] {
             for symbols in [1, 2, 3, 17, 256] {
                 for edition in EDITIONS {
@@ -1712,7 +1723,7 @@ fn long_words() {
 fn longest_words() {
     let mut checker = Checker::default();
     let mut numbers = Numbers(88_172_645_463_325_252);
-    for w in structured(LIMIT) {
+    for w in structured(PLAIN) {
         long_word(&mut checker, &mut numbers, &w);
     }
     checker.report("longest words");
@@ -1801,13 +1812,13 @@ fn long_split<S: Kind>(
 
 // ---- the cuts of the finder of runs, which halves a word and then each half
 
-/// The lengths up to the limit that are powers of two, one less and one more.
+/// The lengths up to 4,096 that are powers of two, one less and one more.
 fn lengths_at_powers_of_two(least: usize) -> impl Iterator<Item = usize> {
     (0..=12)
         .map(|k| 1 << k)
         .filter(move |&power| least <= power)
         .flat_map(|power| [power - 1, power, power + 1])
-        .filter(|&n| n <= LIMIT)
+        .filter(|&n| n <= PLAIN)
 }
 
 /// The runs of a word, its nodes at the cuts and beside them, and at both ends.
@@ -1866,7 +1877,7 @@ fn runs_beside_cuts() {
         let mut units = vec![1, 2, 3, power / 4, power / 3, power / 2];
         units.sort();
         units.dedup();
-        for n in [2 * power - 1, 2 * power, (2 * power + 1).min(LIMIT)] {
+        for n in [2 * power - 1, 2 * power, (2 * power + 1).min(PLAIN)] {
             for cut in [power - 1, power, power + 1] {
                 for &unit in units.iter().filter(|&&u| 0 < u) {
                     let symbols = numbers.word(unit, 3);
@@ -2417,7 +2428,7 @@ fn long_words_of_codes_in_pairs() {
     let mut checker = Checker::default();
     let mut numbers = Numbers(1_013_904_223);
     let mut words = words_to_pair(&mut numbers);
-    words.extend([fibonacci(LIMIT), numbers.split(LIMIT, 3, 40, 3).0]);
+    words.extend([fibonacci(PLAIN), numbers.split(PLAIN, 3, 40, 3).0]);
     let spelling = |(i, w): (usize, &Vec<u8>)| spelt(w, SPELLINGS[i % SPELLINGS.len()]);
     let words: Vec<Vec<u16>> = words.iter().enumerate().map(spelling).collect();
     let known = all_known(&words);
@@ -2472,7 +2483,7 @@ fn long_words_of_codes() {
 fn longest_words_of_codes() {
     let mut checker = Checker::default();
     let mut numbers = Numbers(2_654_435_761);
-    for (i, w) in structured(LIMIT).into_iter().enumerate() {
+    for (i, w) in structured(PLAIN).into_iter().enumerate() {
         let w = spelt(&w, SPELLINGS[i % SPELLINGS.len()]);
         long_word(&mut checker, &mut numbers, &w);
         long_squares(&mut checker, &mut numbers, &w, &[]);
@@ -2543,7 +2554,7 @@ fn roots_go_by_codes() {
     }
     // Long units, from many starts.
     let mut numbers = Numbers(1_597_334_677);
-    for (length, starts) in [(20, 20), (233, 10), (1000, 3), (LIMIT / 2, 1)] {
+    for (length, starts) in [(20, 20), (233, 10), (1000, 3), (PLAIN / 2, 1)] {
         let units = [
             numbers.word(length, 2),
             numbers.word(length, 256),
@@ -2555,7 +2566,7 @@ fn roots_go_by_codes() {
             for spelling in SPELLINGS {
                 for _ in 0..starts {
                     let start = numbers.below(length);
-                    let symbols = (2 * length + numbers.below(length)).min(LIMIT);
+                    let symbols = (2 * length + numbers.below(length)).min(PLAIN);
                     let turning = unit.iter().cycle().skip(start).take(symbols);
                     let bytes: Vec<u8> = turning.copied().collect();
                     rooted(&mut checker, &spelt(&bytes, spelling));
@@ -2570,8 +2581,8 @@ fn roots_go_by_codes() {
 #[test]
 fn pages_of_every_code() {
     let mut made = 0u64;
-    let ends: Vec<u32> = (1..=LIMIT as u32 / 2).map(|k| 2 * k).collect();
-    for codes in (0..=u16::MAX).collect::<Vec<u16>>().chunks(LIMIT / 2) {
+    let ends: Vec<u32> = (1..=PLAIN as u32 / 2).map(|k| 2 * k).collect();
+    for codes in (0..=u16::MAX).collect::<Vec<u16>>().chunks(PLAIN / 2) {
         let word: Vec<u16> = codes.iter().flat_map(|&code| [code, code]).collect();
         let page = cegridom::write_page(&word, Edition::One, &ends).unwrap();
         let lines = page.chunks(61);
@@ -2592,7 +2603,7 @@ fn pages_of_every_code() {
 fn pages_of_codes() {
     let mut checker = Checker::default();
     let mut numbers = Numbers(362_436_069);
-    for n in [12, 40, 99, 100, 500, 1000, LIMIT] {
+    for n in [12, 40, 99, 100, 500, 1000, PLAIN] {
         for longest in [1, 3, 4, 5, 12, n / 3] {
             for symbols in [2, 17, 256] {
                 for edition in EDITIONS {
@@ -2615,8 +2626,8 @@ fn words_of_many_codes() {
     let mut checker = Checker::default();
     let mut numbers = Numbers(4_294_967_291);
     // Different codes, in no order, of which each low byte stands 16 times.
-    let codes: Vec<u16> = (0..LIMIT as u32).map(|i| (40_503 * i) as u16).collect();
-    for unit in [300, 1000, LIMIT / 2, LIMIT] {
+    let codes: Vec<u16> = (0..PLAIN as u32).map(|i| (40_503 * i) as u16).collect();
+    for unit in [300, 1000, PLAIN / 2, PLAIN] {
         let w = &codes[..unit];
         assert_eq!(cegridom::runs(w), Ok(vec![]));
         assert_eq!(
@@ -2625,7 +2636,7 @@ fn words_of_many_codes() {
         );
         long_word(&mut checker, &mut numbers, w);
     }
-    for half in [300, 1000, LIMIT / 2] {
+    for half in [300, 1000, PLAIN / 2] {
         let w = codes[..half].repeat(2);
         let (n, least) = (w.len() as u32, codes[..half].iter().min());
         let root = codes.iter().position(|code| Some(code) == least).unwrap() as u32 + 1;
@@ -2648,9 +2659,9 @@ fn words_of_many_codes() {
     }
     // A unit of 256 codes that have one low byte.
     let unit: Vec<u16> = (0..=255).rev().map(|high| 256 * high + 7).collect();
-    let w = unit.repeat(LIMIT / 256);
+    let w = unit.repeat(PLAIN / 256);
     let split = cegridom::best_split(&w, Edition::One, Choice::Fewest);
-    assert_eq!(split, Ok(vec![LIMIT as u32]));
+    assert_eq!(split, Ok(vec![PLAIN as u32]));
     long_word(&mut checker, &mut numbers, &w);
     long_squares(&mut checker, &mut numbers, &w, &[]);
     checker.report("words of many codes");
@@ -2660,7 +2671,7 @@ fn words_of_many_codes() {
 #[test]
 fn words_over_the_limit() {
     let mut checker = Checker::default();
-    for n in [4097, 5000, 70_000] {
+    for n in [LIMIT + 1, 131_072, 140_001] {
         for w in [vec![b'a'; n], fibonacci(n)] {
             let known = Known::of(&w);
             let all = n as u32;
@@ -2669,7 +2680,7 @@ fn words_over_the_limit() {
             }
             let squared = Squared::of(&w);
             for choice in [0, 1, 2, 3] {
-                for work_places in [0, 4 * 4097, 4 * (n + 1)] {
+                for work_places in [0, 4 * (LIMIT + 1), 4 * (n + 1)] {
                     checker.best_squares(&squared, choice, n, work_places);
                     checker.best_squares(&squared, choice, 0, work_places);
                 }
@@ -2705,24 +2716,32 @@ fn words_over_the_limit() {
         }
     }
     // Either of two words, or both.
-    for n in [4097, 70_000] {
-        for other in [4097, 70_000, LIMIT, 2, 1, 0] {
-            let (long, other) = (vec![b'a'; n], vec![b'a'; other]);
-            let (long, other) = (Known::of(&long), Known::of(&other));
+    let equal = [LIMIT + 1, 140_001, LIMIT, 2, 1, 0].map(|n| vec![b'a'; n]);
+    let known: Vec<Known> = equal.iter().map(|w| Known::of(w)).collect();
+    for long in &known[..2] {
+        for other in &known {
             for edition in [0, 1, 2, 3] {
-                for work_places in [0, 4 * 4097, 4 * 4098, 4 * 70_001] {
-                    checker.two(&long, &other, edition, work_places);
-                    checker.two(&other, &long, edition, work_places);
+                for work_places in [0, 4 * (LIMIT + 1), 4 * (LIMIT + 2), 4 * 140_002] {
+                    checker.two(long, other, edition, work_places);
+                    checker.two(other, long, edition, work_places);
                 }
             }
         }
     }
-    for n in [4097, 5000, 9999, 10_000, u32::MAX] {
+    for n in [70_001, 99_999, 100_000, 999_999, 1_000_000, u32::MAX] {
         for ends in [&[][..], &[n], &[0], &[n, n]] {
             checker.write_plan(n, ends, 0);
             checker.write_plan(n, ends, 100);
             checker.read_plan(&reference::line(n, ends), 0);
             checker.read_plan(&reference::line(n, ends), 4);
+        }
+    }
+    // In four digits as much as they hold, in six what needs no more than four.
+    for n in [0, 1, 8, 4095, 4096, 4097, 5000, 9999, 10_000] {
+        for ends in [&[][..], &[n], &[0], &[n, n]] {
+            for places in [0, 4] {
+                checker.read_plan(&reference::other_line(n, ends), places);
+            }
         }
     }
     checker.report("words over the limit");
@@ -2746,12 +2765,28 @@ fn plan_lines() {
         (4096, vec![4096]),
         (4096, (1..=4096).collect()),
         (4096, (1..=2048).map(|k| 2 * k).collect()),
-        (5000, vec![5000]),
+        (4097, vec![4097]),
+        (4097, vec![4096, 4097]),
+        (4097, (1..=4097).collect()),
+        (4097, vec![]),
+        (4097, vec![4096]),
+        (5000, vec![5000, 5000]),
         (9999, vec![9999]),
+        (10_000, vec![9999, 10_000]),
+        (65_536, vec![65_535, 65_536]),
+        (69_999, vec![70_000]),
+        (70_000, vec![2, 65_536, 70_000]),
+        (70_000, (1..=70_000).collect()),
+        (70_000, (1..=35_000).map(|k| 2 * k).collect()),
+        (70_001, vec![70_001]),
+        (99_999, vec![99_999]),
+        (999_999, vec![0]),
     ];
-    for _ in 0..300 {
-        let n = numbers.below(LIMIT + 1) as u32;
-        let sparse = 1 + numbers.below(50);
+    // Of both kinds.
+    for turn in 0..500 {
+        let most = [LINE_LIMIT, LIMIT][turn % 2];
+        let n = numbers.below(most + 1) as u32;
+        let sparse = 1 + numbers.below(50 * (1 + 20 * (turn % 2)));
         let mut ends: Vec<u32> = (1..=n).filter(|_| numbers.below(sparse) == 0).collect();
         if ends.last() != Some(&n) && n > 0 && numbers.below(10) > 0 {
             ends.push(n);
@@ -2760,10 +2795,24 @@ fn plan_lines() {
     }
     for (n, ends) in &plans {
         checker.plan_sizes(*n, ends);
+        // Each plan has one line.
+        checker.read_plan(&reference::other_line(*n, ends), ends.len());
     }
-    // Every byte of some lines changed, left out and doubled.
-    for (n, ends) in plans.iter().filter(|(_, ends)| ends.len() < 8).take(40) {
-        let line = reference::line(*n, ends);
+    // Every byte of some lines of each kind changed, left out and doubled; and of a line of six digits
+    // that has no need of them.
+    let few = |long: bool| {
+        let kind = plans
+            .iter()
+            .filter(move |(n, _)| (*n as usize > LINE_LIMIT) == long);
+        kind.filter(|(_, ends)| ends.len() < 8).take(40)
+    };
+    let lines = few(false)
+        .chain(few(true))
+        .map(|(n, ends)| (reference::line(*n, ends), ends));
+    let needless = few(false)
+        .take(8)
+        .map(|(n, ends)| (reference::other_line(*n, ends), ends));
+    for (line, ends) in lines.chain(needless) {
         let room = ends.len() + 3;
         for i in 0..line.len() {
             for byte in 0..=255 {
@@ -2780,7 +2829,10 @@ fn plan_lines() {
             checker.read_plan(&line[..i], room);
             checker.read_plan(&line[i..], room);
         }
-        for tail in [&b"\n"[..], b",0001\n", b" ", b"\0", b"\r\n"] {
+        for head in [b"plan,", b"long,", b"LONG,", b"lonG,", b"pong,", b"plan:"] {
+            checker.read_plan(&[&head[..], &line[5.min(line.len())..]].concat(), room);
+        }
+        for tail in [&b"\n"[..], b",0001\n", b",000001\n", b" ", b"\0", b"\r\n"] {
             checker.read_plan(&[&line[..], tail].concat(), room);
             checker.read_plan(&[&line[..line.len() - 1], tail].concat(), room);
         }
@@ -2804,7 +2856,7 @@ fn every_refusal_in_its_order() {
     let baa = Known::of(b"baa");
     let equal = Known::of(b"aaaaaa");
     let empty = Known::of(b"");
-    let long = vec![b'a'; 4097];
+    let long = vec![b'a'; LIMIT + 1];
     let too_long = Known::of(&long);
     // part: 1, 12, 6, 7
     expect(&mut checker, 1, &|c| c.part(&long, 0, 0, 0, 0));
@@ -2862,7 +2914,7 @@ fn every_refusal_in_its_order() {
     let [no_squares, squares_over] = [&b""[..], &long].map(Squared::of);
     expect(&mut checker, 1, &|c| c.best_squares(&squares_over, 3, 0, 0));
     expect(&mut checker, 1, &|c| {
-        c.best_squares(&squares_over, 1, 4097, 4 * 4098)
+        c.best_squares(&squares_over, 1, LIMIT + 1, 4 * (LIMIT + 2))
     });
     for known in [&squared, &odd, &none, &no_squares] {
         let work = 4 * (known.word.len() + 1);
@@ -2899,7 +2951,9 @@ fn every_refusal_in_its_order() {
     // which first: 1 for either; 12; 9 for the longer; 2 if neither splits
     for (a, b) in [(&too_long, &baa), (&baa, &too_long), (&too_long, &too_long)] {
         expect(&mut checker, 1, &|c| c.which_first(a, b, 0, 0));
-        expect(&mut checker, 1, &|c| c.which_first(a, b, 1, 4 * 4098));
+        expect(&mut checker, 1, &|c| {
+            c.which_first(a, b, 1, 4 * (LIMIT + 2))
+        });
     }
     for (a, b) in [(&baa, &known), (&known, &baa)] {
         expect(&mut checker, 12, &|c| c.which_first(a, b, 0, 0));
@@ -2987,7 +3041,7 @@ fn every_refusal_in_its_order() {
     // write a page: as for path of a split
     expect(&mut checker, 1, &|c| c.write_page(&too_long, 0, &[0], 0));
     expect(&mut checker, 1, &|c| {
-        c.write_page(&too_long, 1, &[4097], 61)
+        c.write_page(&too_long, 1, &[LIMIT as u32 + 1], 61)
     });
     expect(&mut checker, 12, &|c| c.write_page(&known, 0, &[9], 0));
     expect(&mut checker, 12, &|c| c.write_page(&known, 3, &[8], 61));
@@ -3008,7 +3062,15 @@ fn every_refusal_in_its_order() {
     expect(&mut checker, 0, &|c| c.write_page(&empty, 1, &[], 0));
     expect(&mut checker, 3, &|c| c.write_page(&empty, 2, &[0], 0));
     // write a plan: 1; 3 for each end; 5; 7
-    expect(&mut checker, 1, &|c| c.write_plan(4097, &[0], 0));
+    expect(&mut checker, 1, &|c| c.write_plan(70_001, &[0], 0));
+    expect(&mut checker, 3, &|c| c.write_plan(70_000, &[0], 0));
+    expect(&mut checker, 3, &|c| c.write_plan(70_000, &[70_001], 0));
+    expect(&mut checker, 5, &|c| c.write_plan(70_000, &[69_999], 0));
+    expect(&mut checker, 7, &|c| c.write_plan(70_000, &[70_000], 25));
+    expect(&mut checker, 0, &|c| c.write_plan(70_000, &[70_000], 26));
+    expect(&mut checker, 7, &|c| c.write_plan(4097, &[4097], 25));
+    expect(&mut checker, 7, &|c| c.write_plan(4096, &[4096], 19));
+    expect(&mut checker, 0, &|c| c.write_plan(4096, &[4096], 20));
     expect(&mut checker, 3, &|c| c.write_plan(8, &[9], 0));
     expect(&mut checker, 3, &|c| c.write_plan(8, &[8, 8], 0));
     expect(&mut checker, 5, &|c| c.write_plan(8, &[2], 0));
@@ -3033,6 +3095,32 @@ fn every_refusal_in_its_order() {
     expect(&mut checker, 0, &|c| {
         c.read_plan(b"plan,0008,0001,0008\n", 1)
     });
+    for (number, line, places) in [
+        // six digits without need, whatever else is wrong
+        (11, "long,004096,000001,004096\n", 1),
+        (11, "long,000008,000001,000009\n", 0),
+        (11, "long,000000,000000\n", 0),
+        (11, "long,004096,000002,004096\n", 1),
+        // a count that differs, or digits of the other kind
+        (11, "long,070001,000002,000000\n", 0),
+        (11, "long,4097,0001,4097\n", 1),
+        (11, "plan,004097,000001,004097\n", 1),
+        (1, "plan,4097,0001,4097\n", 1),
+        (1, "plan,4097,0001,0000\n", 0),
+        (1, "long,070001,000001,000000\n", 0),
+        (1, "long,999999,000000\n", 0),
+        (3, "long,070000,000001,070001\n", 0),
+        (3, "long,004097,000002,004097,004097\n", 0),
+        (5, "long,070000,000001,069999\n", 0),
+        (5, "long,004097,000000\n", 0),
+        (7, "long,070000,000001,070000\n", 0),
+        (0, "long,070000,000001,070000\n", 1),
+        (0, "long,004097,000002,004096,004097\n", 2),
+    ] {
+        expect(&mut checker, number, &|c| {
+            c.read_plan(line.as_bytes(), places)
+        });
+    }
     checker.report("every refusal in its order");
 }
 
@@ -3471,8 +3559,7 @@ fn in_both_kinds(words: &[Vec<u8>], mut bytes: impl FnMut(&[u8]), mut codes: imp
 #[test]
 fn wrappers() {
     let mut words: Vec<Vec<u8>> = structured(200);
-    words.push(vec![b'a'; 4096]);
-    words.push(vec![b'a'; 4097]);
+    words.extend([LINE_LIMIT, LINE_LIMIT + 1, LIMIT + 1].map(|n| vec![b'a'; n]));
     words.extend([256, 257].map(|unit| one_and_zeros(unit).repeat(2)));
     every_word(2, 7, |w| words.push(w.to_vec()));
     let (mut of_bytes, mut of_codes) = (Wrappers::default(), Wrappers::default());
@@ -3527,7 +3614,7 @@ fn wrappers_on_squares() {
         |w| of_bytes.square_promises(w),
         |w| of_codes.square_promises(w),
     );
-    words.extend([LIMIT - 1, LIMIT, LIMIT + 1].map(|n| vec![b'a'; n]));
+    words.extend([PLAIN - 1, PLAIN, LIMIT + 1].map(|n| vec![b'a'; n]));
     in_both_kinds(
         &words,
         |w| wrapped_squares(&mut of_bytes, w),
@@ -3587,7 +3674,7 @@ fn wrapped_pairs<S: Kind>(wrappers: &mut Wrappers, words: &[Vec<S>]) {
         }
     }
     let symbol = words[0][0];
-    let words = [LIMIT, LIMIT + 1, 2, 1, 0].map(|n| vec![symbol; n]);
+    let words = [PLAIN, LIMIT + 1, 2, 1, 0].map(|n| vec![symbol; n]);
     let known = all_known(&words);
     for a in &known {
         for b in &known {
@@ -3621,7 +3708,7 @@ fn rich_in_runs() -> Vec<(Vec<u8>, usize)> {
         (125, 110),
         (505, 467),
         (1024, 951),
-        (LIMIT, 3851),
+        (PLAIN, 3851),
     ];
     words.extend(series.map(|(n, runs)| (run_rich(n), runs)));
     words
@@ -3653,7 +3740,7 @@ fn sizes_that_suffice() {
     }
     every_word(2, 12, &mut look);
     every_word(3, 8, &mut look);
-    for w in [LIMIT, LIMIT - 1].map(|n| vec![b'a'; n]) {
+    for w in [PLAIN, PLAIN - 1].map(|n| vec![b'a'; n]) {
         look(&w);
     }
     let mut every_split = |w: &[u8]| {

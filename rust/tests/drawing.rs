@@ -114,5 +114,8 @@ fn any_byte_is_drawn_as_plain_text() {
 
 #[test]
 fn a_word_that_is_too_long_is_refused() {
-    assert_eq!(drawing::draw(&[b'a'; 4097]), Err(Refusal::TooLong));
+    assert_eq!(
+        drawing::draw(&vec![b'a'; cegridom::LIMIT + 1]),
+        Err(Refusal::TooLong)
+    );
 }

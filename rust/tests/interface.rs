@@ -3,7 +3,7 @@
 //! caller's symbols, words of 16-bit symbols, what the units of a part, runs, nodes, squares, a page
 //! and the calls on two words take of memory, and the example `fewest`.
 
-use cegridom::{raw, Choice, Edition, Refusal, Run, Symbol, Which, LIMIT};
+use cegridom::{raw, Choice, Edition, Refusal, Run, Symbol, Which, LIMIT, LINE_LIMIT};
 use std::alloc::{GlobalAlloc, Layout, System};
 use std::cell::Cell;
 use std::error::Error;
@@ -101,9 +101,69 @@ fn sizes_do_not_overflow() {
     assert_eq!(cegridom::work_places(usize::MAX), usize::MAX);
     assert_eq!(cegridom::page_bytes(usize::MAX), usize::MAX);
     assert_eq!(cegridom::plan_bytes(usize::MAX), usize::MAX);
+    assert_eq!(cegridom::long_bytes(usize::MAX), usize::MAX);
+    assert_eq!(cegridom::line_bytes(usize::MAX, usize::MAX), usize::MAX);
+    assert_eq!(cegridom::line_ends(usize::MAX), (usize::MAX - 15) / 5);
+    assert_eq!((LIMIT, LINE_LIMIT), (70_000, 4096));
     assert_eq!(cegridom::most_ends(usize::MAX), usize::MAX / 2);
     assert_eq!([0, 1, 2, 8].map(cegridom::most_runs), [0, 0, 1, 7]);
     assert_eq!(cegridom::most_runs(usize::MAX), usize::MAX - 1);
+}
+
+#[test]
+fn a_plan_has_one_line() {
+    for n in [1, 4095, 4096, 4097, 9999, 10_000, 65_536, 70_000] {
+        for ends in [vec![n], (1..=n).collect(), (2..=n).step_by(3).collect()] {
+            let Ok(line) = cegridom::write_plan(n as usize, &ends) else {
+                assert_ne!(ends.last(), Some(&n));
+                continue;
+            };
+            let bytes = cegridom::line_bytes(n as usize, ends.len());
+            assert_eq!(line.len(), bytes);
+            assert!(cegridom::line_ends(bytes) >= ends.len());
+            assert_eq!(line.starts_with(b"long,"), n > 4096);
+            let plan = cegridom::read_plan(&line).unwrap();
+            assert_eq!((plan.n, &plan.ends), (n as usize, &ends));
+            // The other kind, with the same numbers, is refused.
+            let (digits, begins, refusal) = match n > 4096 {
+                true => (4, "plan", Refusal::TooLong),
+                false => (6, "long", Refusal::NotPlan),
+            };
+            let mut other = format!("{begins},{n:0digits$},{:0digits$}", ends.len());
+            for end in &ends {
+                other += &format!(",{end:0digits$}");
+            }
+            // Five digits are none of four.
+            let refusal = match n > 9999 {
+                true => Refusal::NotPlan,
+                false => refusal,
+            };
+            assert_eq!(cegridom::read_plan((other + "\n").as_bytes()), Err(refusal));
+        }
+    }
+    let over = cegridom::write_plan(70_001, &[70_001]);
+    assert_eq!(over, Err(Refusal::TooLong));
+}
+
+#[test]
+fn a_plan_allocates_its_bytes() {
+    for n in [8, LINE_LIMIT, LINE_LIMIT + 1, LIMIT] {
+        let ends: Vec<u32> = (1..=n as u32).collect();
+        let (bytes, line) = bytes_allocated(|| cegridom::write_plan(n, &ends).unwrap());
+        assert_eq!((bytes, line.len()), (cegridom::line_bytes(n, n), bytes));
+        // The answer may be moved to a table of its own size.
+        let (numbers, plan) = numbers_allocated(|| cegridom::read_plan(&line).unwrap());
+        let places = cegridom::line_ends(line.len()).min(LIMIT);
+        assert!((places..=places + n).contains(&numbers), "{numbers}");
+        assert_eq!(plan.ends, ends);
+    }
+    // More ends than a plan has, and a line of more bytes.
+    let many = vec![8; 1_000_000];
+    let (bytes, refused) = bytes_allocated(|| cegridom::write_plan(8, &many));
+    assert_eq!(refused, Err(Refusal::BadEnd { index: 2 }));
+    assert_eq!(bytes, cegridom::plan_bytes(8));
+    let (numbers, refused) = numbers_allocated(|| cegridom::read_plan(&[b'0'; 1_000_000]));
+    assert_eq!((numbers, refused), (LIMIT, Err(Refusal::NotPlan)));
 }
 
 #[test]
@@ -151,7 +211,7 @@ fn runs_have_roots() {
     runs_are(b"\x7f\x80\x7f\x80", &[[1, 4, 2, 1]]);
     runs_are(b"\xc8\x64\xc8\x64\xc8", &[[1, 5, 2, 2]]);
     runs_are(b"\x80\xff\x80\x7f\x80\xff\x80\x7f", &[[1, 8, 4, 4]]);
-    runs_are(&[b'a'; LIMIT], &[[1, LIMIT as u32, 1, 1]]);
+    runs_are(&vec![b'a'; LIMIT], &[[1, LIMIT as u32, 1, 1]]);
 }
 
 #[test]
@@ -303,7 +363,7 @@ fn words_of_the_documents_in_codes() {
         [Choice::Fewest, Choice::Most].map(|c| cegridom::best_squares(&squares, c)),
         [Ok(vec![6, 16, 18]), Ok(vec![10, 12, 14, 16, 18])]
     );
-    let equal = [0xffffu16; LIMIT + 1];
+    let equal = vec![0xffffu16; LIMIT + 1];
     let whole = cegridom::best_split(&equal[1..], Edition::One, Choice::Fewest);
     assert_eq!(whole, Ok(vec![LIMIT as u32]));
     let over = cegridom::best_split(&equal, Edition::One, Choice::Fewest);
@@ -325,7 +385,7 @@ fn runs_of_codes_have_roots() {
     // Codes that only the high byte tells apart are no run.
     runs_are(&[1u16, 257], &[]);
     runs_are(&[1u16, 257, 1, 257], &[[1, 4, 2, 1]]);
-    runs_are(&[300u16; LIMIT], &[[1, LIMIT as u32, 1, 1]]);
+    runs_are(&vec![300u16; LIMIT], &[[1, LIMIT as u32, 1, 1]]);
 }
 
 #[test]
@@ -413,7 +473,7 @@ fn allocations<S: Symbol>(word: &[S]) -> [usize; 12] {
 
 #[test]
 fn codes_allocate_as_bytes_do() {
-    let (longest, too_long) = ([b'a'; LIMIT], vec![b'a'; 1_000_000]);
+    let (longest, too_long) = (vec![b'a'; LIMIT], vec![b'a'; 1_000_000]);
     for word in [&b"aabaabaa"[..], b"ab", b"", &longest, &too_long] {
         let codes: Vec<u16> = word.iter().map(|&symbol| symbol.into()).collect();
         assert_eq!(allocations(&codes), allocations(word));
@@ -460,7 +520,7 @@ fn numbers_allocated<T>(call: impl FnOnce() -> T) -> (usize, T) {
 
 /// What the functions on a part allocate, and their refusals.
 fn part_allocations(word: &[u8], first: u32, last: u32) -> ([usize; 3], [Option<Refusal>; 3]) {
-    let mut lent = [0; LIMIT];
+    let mut lent = vec![0; LIMIT];
     let (part, a) = numbers_allocated(|| cegridom::part(word, Edition::Two, first, last));
     let (units, b) = numbers_allocated(|| cegridom::units(word, first, last));
     let (into, c) =
@@ -474,7 +534,7 @@ fn a_part_allocates_a_number_a_symbol() {
         let said = part_allocations(b"aabaabaa", first, last);
         assert_eq!(said, ([length, length, 0], [None; 3]));
     }
-    let longest = [b'a'; LIMIT];
+    let longest = vec![b'a'; LIMIT];
     let said = part_allocations(&longest, 1, LIMIT as u32);
     assert_eq!(said, ([LIMIT, LIMIT, 0], [None; 3]));
 }
@@ -498,7 +558,7 @@ fn a_refused_part_allocates_no_more_than_the_word() {
         );
         assert_eq!(refusals, [Some(Refusal::BadPosition); 3]);
     }
-    let too_long = [b'a'; LIMIT + 1];
+    let too_long = vec![b'a'; LIMIT + 1];
     for (first, last) in [(1, LIMIT as u32), (1, LIMIT as u32 + 1), (1, u32::MAX)] {
         let said = part_allocations(&too_long, first, last);
         assert_eq!(said, ([0; 3], [Some(Refusal::TooLong); 3]));
@@ -507,7 +567,7 @@ fn a_refused_part_allocates_no_more_than_the_word() {
 
 #[test]
 fn runs_and_nodes_allocate_for_the_most_runs() {
-    let longest = [b'a'; LIMIT];
+    let longest = vec![b'a'; LIMIT];
     for word in [&b"aabaabaa"[..], b"aa", b"ab", b"a", b"", &longest] {
         let most = cegridom::most_runs(word.len());
         let places = raw::RUN_PLACES * most;
@@ -524,16 +584,17 @@ fn runs_and_nodes_allocate_for_the_most_runs() {
     let said = numbers_allocated(|| cegridom::runs_into(b"aabaabaa", &mut table));
     assert_eq!(said, (0, Ok(4)));
     // Nothing, where the word is too long.
-    let said = numbers_allocated(|| cegridom::runs(&[b'a'; LIMIT + 1]));
+    let too_long = vec![b'a'; LIMIT + 1];
+    let said = numbers_allocated(|| cegridom::runs(&too_long));
     assert_eq!(said, (0, Err(Refusal::TooLong)));
-    let said = numbers_allocated(|| cegridom::nodes(&[b'a'; LIMIT + 1], Edition::One, 1));
+    let said = numbers_allocated(|| cegridom::nodes(&too_long, Edition::One, 1));
     assert_eq!(said, (0, Err(Refusal::TooLong)));
 }
 
 #[test]
 fn squares_allocate_the_ends_and_a_working_table() {
-    let longest = [b'a'; LIMIT];
-    let (mut ends, mut work) = ([0; LIMIT / 2], [0; cegridom::work_places(LIMIT)]);
+    let longest = vec![b'a'; LIMIT];
+    let (mut ends, mut work) = (vec![0; LIMIT / 2], vec![0; cegridom::work_places(LIMIT)]);
     for word in [&b"aabaabaa"[..], b"ababa", b"", &longest] {
         let n = word.len();
         let places = cegridom::most_ends(n) + cegridom::work_places(n);
@@ -563,13 +624,13 @@ fn a_page_allocates_its_bytes() {
     assert_eq!(page(b"", &[]), (0, Ok(0)));
     let ends: Vec<u32> = (1..=LIMIT as u32 / 2).map(|k| 2 * k).collect();
     let most = cegridom::page_bytes(ends.len());
-    assert_eq!(page(&[b'a'; LIMIT], &ends), (most, Ok(most)));
+    assert_eq!(page(&vec![b'a'; LIMIT], &ends), (most, Ok(most)));
     // More ends than a split has, and a word that is too long.
     let many = vec![8; 1_000_000];
     let (bytes, refused) = page(b"aabaabaa", &many);
     assert!(bytes <= cegridom::page_bytes(4), "{bytes}");
     assert_eq!(refused, Err(Refusal::BadEnd { index: 2 }));
-    let refused = page(&[b'a'; LIMIT + 1], &many);
+    let refused = page(&vec![b'a'; LIMIT + 1], &many);
     assert_eq!(refused, (0, Err(Refusal::TooLong)));
     let (bytes, _) = bytes_allocated(|| {
         let mut out = [0; 122];
@@ -580,7 +641,7 @@ fn a_page_allocates_its_bytes() {
 
 /// What the functions on two words allocate, with tables of their own and with lent ones.
 fn pair_allocations(a: &[u8], b: &[u8]) -> [usize; 4] {
-    let mut work = [0; cegridom::work_places(LIMIT)];
+    let mut work = vec![0; cegridom::work_places(LIMIT)];
     let one = Edition::One;
     [
         numbers_allocated(|| cegridom::which_first(a, b, one).is_ok()).0,
@@ -592,7 +653,7 @@ fn pair_allocations(a: &[u8], b: &[u8]) -> [usize; 4] {
 
 #[test]
 fn two_words_allocate_a_working_table() {
-    let longest = [b'a'; LIMIT];
+    let longest = vec![b'a'; LIMIT];
     for (a, b) in [
         (&b"aabaabaa"[..], &b"aabb"[..]),
         (b"aabb", b"aabaabaa"),
@@ -640,8 +701,8 @@ fn fewest_prints_the_size_and_the_ends() {
 #[test]
 fn fewest_takes_words_up_to_the_limit() {
     let longest = vec![b'a'; LIMIT];
-    assert_eq!(printed(&longest), "1\n4096\n");
-    assert_eq!(printed(&[&longest[..], b"\n"].concat()), "1\n4096\n");
+    assert_eq!(printed(&longest), "1\n70000\n");
+    assert_eq!(printed(&[&longest[..], b"\n"].concat()), "1\n70000\n");
     let error = fewest::run(&[&longest[..], b"a\n"].concat()[..], io::sink()).unwrap_err();
     assert_eq!(error.to_string(), Refusal::TooLong.to_string());
 }

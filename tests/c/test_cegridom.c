@@ -29,12 +29,16 @@ static uint32_t index_, a, b, c, d;
 
 static void reset(void) { index_ = a = b = c = d = GUARD; }
 
-static uint32_t table[CEGRIDOM_MOST_RUN_PLACES(CEGRIDOM_LIMIT) + 2];
-static uint32_t work[CEGRIDOM_WORK_PLACES(CEGRIDOM_LIMIT + 1) + 2];
+/* The longest words of most tests, which look at whole tables after every call; words up to the
+   limit have tests of their own. */
+#define LENGTH 4096
+
+static uint32_t table[CEGRIDOM_MOST_RUN_PLACES(LENGTH) + 2];
+static uint32_t work[CEGRIDOM_WORK_PLACES(LENGTH + 1) + 2];
 static uint8_t longest[CEGRIDOM_LIMIT + 1];
 static uint8_t rich[CEGRIDOM_LIMIT];
-static uint8_t out[CEGRIDOM_PLAN_BYTES(CEGRIDOM_LIMIT) + 1];
-static uint8_t page[CEGRIDOM_PAGE_BYTES(CEGRIDOM_MOST_ENDS(CEGRIDOM_LIMIT)) + 9];
+static uint8_t out[CEGRIDOM_PLAN_BYTES(LENGTH) + 1];
+static uint8_t page[CEGRIDOM_PAGE_BYTES(CEGRIDOM_MOST_ENDS(LENGTH)) + 9];
 
 #define TABLE_PLACES (sizeof table / sizeof *table)
 #define WORK (sizeof work / sizeof *work)
@@ -243,7 +247,7 @@ static void test_version(void) {
 static void test_message(void) {
     static const char *const texts[] = {
         "accepted",
-        "n above 4,096",
+        "n above 70,000",
         "no split exists",
         "an end not above the one before it (0 before the first), or above n",
         "the piece up to this end is not a block; for squares, not a square; for a path, no run "
@@ -356,26 +360,26 @@ static void test_part(void) {
     }
 }
 
-/* The longest word has a place for each of its symbols, all of them 1. */
+/* A long word has a place for each of its symbols, all of them 1. */
 static void test_longest_part(void) {
     fill(table, TABLE_PLACES);
     reset();
-    CHECK(in_width_part(longest, CEGRIDOM_LIMIT, 1, 1, CEGRIDOM_LIMIT, units, CEGRIDOM_LIMIT, &a,
+    CHECK(in_width_part(longest, LENGTH, 1, 1, LENGTH, units, LENGTH, &a,
                         &b, &c, &d, &index_) == CEGRIDOM_ACCEPTED);
-    CHECK(a == 1 && b == CEGRIDOM_LIMIT && c == 0 && d == 1 && index_ == 0);
+    CHECK(a == 1 && b == LENGTH && c == 0 && d == 1 && index_ == 0);
     int ones = 1;
-    for (size_t i = 0; i < CEGRIDOM_LIMIT; i++) {
+    for (size_t i = 0; i < LENGTH; i++) {
         ones &= units[i] == 1;
     }
-    CHECK(ones && table[0] == GUARD && units[CEGRIDOM_LIMIT] == GUARD);
-    part_refused(longest, CEGRIDOM_LIMIT, 1, 1, CEGRIDOM_LIMIT, units, CEGRIDOM_LIMIT - 1,
+    CHECK(ones && table[0] == GUARD && units[LENGTH] == GUARD);
+    part_refused(longest, LENGTH, 1, 1, LENGTH, units, LENGTH - 1,
                  CEGRIDOM_TOO_FEW_PLACES);
 }
 
 static void test_unit_places(void) {
     /* an array's size, and operands that bind less than the macro's own operators */
-    static uint32_t places[CEGRIDOM_UNIT_PLACES(1, CEGRIDOM_LIMIT)];
-    CHECK(sizeof places == CEGRIDOM_LIMIT * sizeof *places);
+    static uint32_t places[CEGRIDOM_UNIT_PLACES(1, LENGTH)];
+    CHECK(sizeof places == LENGTH * sizeof *places);
     CHECK(CEGRIDOM_UNIT_PLACES(1, 1) == 1 && CEGRIDOM_UNIT_PLACES(3, 8) == 6);
     CHECK(2 * CEGRIDOM_UNIT_PLACES(1 | 2, 4 | 8) == 20);
     /* positions that are refused: nothing wraps around */
@@ -484,8 +488,8 @@ static void test_runs(void) {
         const struct runs_case *k = &runs_cases[i];
         listed(k->word, k->n, k->rows, k->count);
     }
-    static const uint32_t whole[][4] = {{1, CEGRIDOM_LIMIT, 1, 1}};
-    listed(longest, CEGRIDOM_LIMIT, whole, 1);
+    static const uint32_t whole[][4] = {{1, LENGTH, 1, 1}};
+    listed(longest, LENGTH, whole, 1);
     /* 1 comes before 7 */
     runs_refused(longest, CEGRIDOM_LIMIT + 1, NULL, 0, CEGRIDOM_TOO_LONG);
     runs_refused(longest, CEGRIDOM_LIMIT + 1, records, TABLE_PLACES - 2, CEGRIDOM_TOO_LONG);
@@ -494,7 +498,7 @@ static void test_runs(void) {
 /* A unit of so many symbols, two or more, which are x but for y at place k, wound twice: the runs
    are the whole word and the stretches of x. */
 static void twice_wound(uint32_t unit, uint32_t k, uint8_t x, uint8_t y) {
-    static uint8_t word[CEGRIDOM_LIMIT];
+    static uint8_t word[LENGTH];
     uint32_t rows[4][4], count = 0;
     const uint32_t stretches[][2] = {{1, k - 1}, {k + 1, k + unit - 1}, {k + unit + 1, 2 * unit}};
     for (uint32_t i = 0; i < 2 * unit; i++) {
@@ -568,19 +572,19 @@ static void test_roots(void) {
     FROM_EACH("\177\200\177\377");
     FROM_EACH("\200\200\201\200\377");
     /* the longest units */
-    twice_wound(CEGRIDOM_LIMIT / 2, 1000, 'a', 'b');
-    twice_wound(CEGRIDOM_LIMIT / 2, CEGRIDOM_LIMIT / 2, 255, 127);
+    twice_wound(LENGTH / 2, 1000, 'a', 'b');
+    twice_wound(LENGTH / 2, LENGTH / 2, 255, 127);
     /* a...ac and then a...ab: they agree for long, and the second comes first */
-    static uint8_t word[CEGRIDOM_LIMIT];
+    static uint8_t word[LENGTH];
     static const uint32_t rows[][4] = {{1, 1023, 1, 1},
                                        {1, 4096, 2048, 1025},
                                        {1025, 2047, 1, 1025},
                                        {2049, 3071, 1, 2049},
                                        {3073, 4095, 1, 3073}};
-    for (uint32_t i = 0; i < CEGRIDOM_LIMIT; i++) {
+    for (uint32_t i = 0; i < LENGTH; i++) {
         word[i] = i % 1024 < 1023 ? 'a' : i % 2048 == 1023 ? 'c' : 'b';
     }
-    listed(word, CEGRIDOM_LIMIT, rows, 5);
+    listed(word, LENGTH, rows, 5);
 }
 
 /* The runs of aaaaaaabababa: 1 to 7 with unit 1, 7 to 13 with unit 2. Its blocks of edition 2 are
@@ -775,16 +779,16 @@ static void test_best_split(void) {
         }
     }
     for (uint32_t edition = 1; edition <= 2; edition++) {
-        uint32_t turns = edition + 1, most = CEGRIDOM_LIMIT / turns;
+        uint32_t turns = edition + 1, most = LENGTH / turns;
         reset();
-        CHECK(in_width_best_split(longest, CEGRIDOM_LIMIT, edition, CEGRIDOM_FEWEST, table, 1, work,
-                                  CEGRIDOM_WORK_PLACES(CEGRIDOM_LIMIT), &a, &index_) == 0);
-        CHECK(a == 1 && table[0] == CEGRIDOM_LIMIT && index_ == 0);
+        CHECK(in_width_best_split(longest, LENGTH, edition, CEGRIDOM_FEWEST, table, 1, work,
+                                  CEGRIDOM_WORK_PLACES(LENGTH), &a, &index_) == 0);
+        CHECK(a == 1 && table[0] == LENGTH && index_ == 0);
         reset();
-        CHECK(in_width_best_split(longest, CEGRIDOM_LIMIT, edition, CEGRIDOM_MOST, table,
-                                  CEGRIDOM_MOST_ENDS(CEGRIDOM_LIMIT), work,
-                                  CEGRIDOM_WORK_PLACES(CEGRIDOM_LIMIT), &a, &index_) == 0);
-        CHECK(a == most && index_ == 0 && table[most - 1] == CEGRIDOM_LIMIT);
+        CHECK(in_width_best_split(longest, LENGTH, edition, CEGRIDOM_MOST, table,
+                                  CEGRIDOM_MOST_ENDS(LENGTH), work,
+                                  CEGRIDOM_WORK_PLACES(LENGTH), &a, &index_) == 0);
+        CHECK(a == most && index_ == 0 && table[most - 1] == LENGTH);
         /* what the turns leave over is in the last block, which is to be longest */
         int even = 1;
         for (uint32_t i = 0; i + 1 < most; i++) {
@@ -979,34 +983,34 @@ static void test_best_squares(void) {
     }
 }
 
-/* Words of the limit's length and about it, and of symbols above 127. */
+/* Long words, and words of symbols above 127. */
 static void test_long_squares(void) {
-    static uint8_t word[CEGRIDOM_LIMIT], twice[512];
-    static uint32_t sizes[CEGRIDOM_LIMIT + 1], pairs[CEGRIDOM_MOST_ENDS(CEGRIDOM_LIMIT)];
-    const uint32_t whole = CEGRIDOM_LIMIT;
-    for (uint32_t i = 0; i < CEGRIDOM_MOST_ENDS(CEGRIDOM_LIMIT); i++) {
+    static uint8_t word[LENGTH], twice[512];
+    static uint32_t sizes[LENGTH + 1], pairs[CEGRIDOM_MOST_ENDS(LENGTH)];
+    const uint32_t whole = LENGTH;
+    for (uint32_t i = 0; i < CEGRIDOM_MOST_ENDS(LENGTH); i++) {
         pairs[i] = 2 * i + 2;
     }
     for (uint32_t choice = 1; choice <= 2; choice++) {
         /* equal symbols: an even length is one square, or pairs; an odd one has no split */
-        for (uint32_t m = 0; m <= CEGRIDOM_LIMIT; m++) {
+        for (uint32_t m = 0; m <= LENGTH; m++) {
             sizes[m] = m % 2 == 1 ? CEGRIDOM_NONE : choice == 1 && m > 0 ? 1 : m / 2;
         }
-        const struct squared equal = {longest, CEGRIDOM_LIMIT, choice, sizes,
+        const struct squared equal = {longest, LENGTH, choice, sizes,
                                       choice == 1 ? &whole : pairs};
         squares_best(&equal);
         squares_as_blocks(&equal, CEGRIDOM_ACCEPTED, 0);
-        const struct squared odd = {longest, CEGRIDOM_LIMIT - 1, choice, sizes, NULL};
+        const struct squared odd = {longest, LENGTH - 1, choice, sizes, NULL};
         squares_best(&odd);
         /* a...ab twice: a square that has a b has both */
-        for (uint32_t m = 1; m <= CEGRIDOM_LIMIT; m++) {
+        for (uint32_t m = 1; m <= LENGTH; m++) {
             word[m - 1] = m % 2048 == 0 ? 'b' : 'a';
-            sizes[m] = m < 2048 ? sizes[m] : m < CEGRIDOM_LIMIT ? CEGRIDOM_NONE : 1;
+            sizes[m] = m < 2048 ? sizes[m] : m < LENGTH ? CEGRIDOM_NONE : 1;
         }
-        const struct squared half = {word, CEGRIDOM_LIMIT, choice, sizes, &whole};
+        const struct squared half = {word, LENGTH, choice, sizes, &whole};
         squares_best(&half);
         squares_as_blocks(&half, CEGRIDOM_NOT_BLOCK, 1);
-        const struct squared shorter = {word, CEGRIDOM_LIMIT - 2, choice, sizes, NULL};
+        const struct squared shorter = {word, LENGTH - 2, choice, sizes, NULL};
         squares_best(&shorter);
         /* every symbol, twice each */
         for (uint32_t m = 0; m <= sizeof twice; m++) {
@@ -1078,12 +1082,12 @@ static void test_judge_squares(void) {
     squares_judged(NULL, 0, NULL, 0, CEGRIDOM_ACCEPTED, 0, 0);
     SQUARES(WORD(""), CEGRIDOM_BAD_END, 1, 0, 0);
     SQUARES(WORD(""), CEGRIDOM_BAD_END, 1, 0, 1);
-    /* the limit, and 1 before all others */
-    squares_judged(longest, CEGRIDOM_LIMIT, NUMBERS(CEGRIDOM_LIMIT), 1, CEGRIDOM_ACCEPTED, 0, 1);
-    squares_judged(longest, CEGRIDOM_LIMIT, NUMBERS(2, CEGRIDOM_LIMIT), 2, CEGRIDOM_ACCEPTED, 0, 2);
-    squares_judged(longest, CEGRIDOM_LIMIT, NUMBERS(2, CEGRIDOM_LIMIT - 1), 2, CEGRIDOM_NOT_BLOCK,
+    /* long words, and 1 before all others */
+    squares_judged(longest, LENGTH, NUMBERS(LENGTH), 1, CEGRIDOM_ACCEPTED, 0, 1);
+    squares_judged(longest, LENGTH, NUMBERS(2, LENGTH), 2, CEGRIDOM_ACCEPTED, 0, 2);
+    squares_judged(longest, LENGTH, NUMBERS(2, LENGTH - 1), 2, CEGRIDOM_NOT_BLOCK,
                    2, 0);
-    squares_judged(longest, CEGRIDOM_LIMIT, NUMBERS(CEGRIDOM_LIMIT + 1), 1, CEGRIDOM_BAD_END, 1, 0);
+    squares_judged(longest, LENGTH, NUMBERS(CEGRIDOM_LIMIT + 1), 1, CEGRIDOM_BAD_END, 1, 0);
     squares_judged(longest, CEGRIDOM_LIMIT + 1, NUMBERS(CEGRIDOM_LIMIT + 1), 1, CEGRIDOM_TOO_LONG,
                    0, 0);
     squares_judged(longest, CEGRIDOM_LIMIT + 1, NUMBERS(0), 1, CEGRIDOM_TOO_LONG, 0, 0);
@@ -1139,7 +1143,8 @@ static void pair_refused(const struct layup *k, const struct layup *l, uint32_t 
     size_t needed = CEGRIDOM_WORK_PLACES(longer(k, l));
     paired(k, l, edition, NULL, 0, result, 0, 0);
     paired(k, l, edition, scratch, 0, result, 0, 0);
-    paired(k, l, edition, scratch, needed, result, 0, 0);
+    /* no more than there are: a word over the limit needs more */
+    paired(k, l, edition, scratch, needed < SCRATCH ? needed : SCRATCH - 1, result, 0, 0);
     paired(k, l, edition, scratch, SCRATCH, result, 0, 0);
 }
 
@@ -1157,7 +1162,7 @@ static void chosen(const struct layup *k, const struct layup *l, uint32_t editio
         length = l->end;
     }
     paired(k, l, edition, scratch, needed, result, which, length);
-    if (longer(k, l) < CEGRIDOM_LIMIT) {
+    if (longer(k, l) < LENGTH) {
         paired(k, l, edition, scratch, needed + 1, result, which, length);
         paired(k, l, edition, scratch, SCRATCH, result, which, length);
     }
@@ -1217,9 +1222,9 @@ static void test_two_words(void) {
     }
 }
 
-/* Words of many blocks, of symbols above 127, that overlap, and of the limit's length. */
+/* Words of many blocks, of symbols above 127, that overlap, and long ones. */
 static void test_long_pairs(void) {
-    static uint8_t twice[512], thrice[768], square[CEGRIDOM_LIMIT], block[CEGRIDOM_LIMIT];
+    static uint8_t twice[512], thrice[768], square[LENGTH], block[LENGTH];
     for (size_t i = 0; i < sizeof twice; i++) {
         twice[i] = (uint8_t)(i / 2);
     }
@@ -1227,7 +1232,7 @@ static void test_long_pairs(void) {
         thrice[i] = (uint8_t)(i / 3);
     }
     /* the unit of the square is too long for a block */
-    for (size_t i = 0; i < CEGRIDOM_LIMIT; i++) {
+    for (size_t i = 0; i < LENGTH; i++) {
         square[i] = i % 2048 == 2047 ? 254 : 255;
         block[i] = i % UNIT_MEMORY == UNIT_MEMORY - 1 ? 254 : 255;
     }
@@ -1239,9 +1244,9 @@ static void test_long_pairs(void) {
         {twice + 511, 1, CEGRIDOM_NONE, 0},
         {thrice, 768, 256, 3},
         {thrice + 1, 767, 256, 2},
-        {longest, CEGRIDOM_LIMIT, 1, CEGRIDOM_LIMIT},
-        {block, CEGRIDOM_LIMIT, 1, CEGRIDOM_LIMIT},
-        {square, CEGRIDOM_LIMIT, CEGRIDOM_NONE, 0},
+        {longest, LENGTH, 1, LENGTH},
+        {block, LENGTH, 1, LENGTH},
+        {square, LENGTH, CEGRIDOM_NONE, 0},
         {square + 2048, 2048, CEGRIDOM_NONE, 0},
     };
     const size_t firsts = sizeof first / sizeof *first;
@@ -1256,9 +1261,9 @@ static void test_long_pairs(void) {
         {thrice, 768, 256, 3},
         {thrice + 3, 765, 255, 3},
         {thrice + 1, 767, CEGRIDOM_NONE, 0},
-        {longest, CEGRIDOM_LIMIT, 1, CEGRIDOM_LIMIT},
-        {block, CEGRIDOM_LIMIT, 1, CEGRIDOM_LIMIT},
-        {square, CEGRIDOM_LIMIT, CEGRIDOM_NONE, 0},
+        {longest, LENGTH, 1, LENGTH},
+        {block, LENGTH, 1, LENGTH},
+        {square, LENGTH, CEGRIDOM_NONE, 0},
     };
     const size_t seconds = sizeof second / sizeof *second;
     for (size_t i = 0; i < seconds; i++) {
@@ -1292,7 +1297,7 @@ static int blank(const uint8_t *bytes, size_t count) {
 
 /* The page of codes, from that of bytes: the first four symbols of each unit in the last column. */
 static const char *spelt(const uint8_t *word, size_t count, const char *text) {
-    static char lines[CEGRIDOM_PAGE_BYTES(CEGRIDOM_MOST_ENDS(CEGRIDOM_LIMIT)) + 1];
+    static char lines[CEGRIDOM_PAGE_BYTES(CEGRIDOM_MOST_ENDS(LENGTH)) + 1];
     if (spelling == BYTES) {
         return text;
     }
@@ -1635,46 +1640,46 @@ static void test_write_page(void) {
 
 /* Numbers of one digit to four, in each column. */
 static void test_longest_page(void) {
-    static uint8_t word[CEGRIDOM_LIMIT];
-    static uint32_t ends[CEGRIDOM_MOST_ENDS(CEGRIDOM_LIMIT)];
-    static char text[CEGRIDOM_PAGE_BYTES(CEGRIDOM_MOST_ENDS(CEGRIDOM_LIMIT)) + 1];
+    static uint8_t word[LENGTH];
+    static uint32_t ends[CEGRIDOM_MOST_ENDS(LENGTH)];
+    static char text[CEGRIDOM_PAGE_BYTES(CEGRIDOM_MOST_ENDS(LENGTH)) + 1];
     /* equal symbols, and the most blocks of them */
     for (uint32_t edition = 1; edition <= 2; edition++) {
-        uint32_t turns = edition + 1, most = CEGRIDOM_LIMIT / turns, before = 0;
+        uint32_t turns = edition + 1, most = LENGTH / turns, before = 0;
         for (uint32_t i = 0; i < most; i++) {
-            ends[i] = i + 1 < most ? before + turns : CEGRIDOM_LIMIT;
+            ends[i] = i + 1 < most ? before + turns : LENGTH;
             snprintf(text + CEGRIDOM_PAGE_BYTES(i), CEGRIDOM_PAGE_BYTES(1) + 1,
                      "%6u%6u%6u%6u%6u%6u%6u%-18s\n", i + 1, before + 1, ends[i], 1,
                      ends[i] - before, 0, 1, "61");
             before = ends[i];
         }
-        paged(longest, CEGRIDOM_LIMIT, edition, ends, most, text);
+        paged(longest, LENGTH, edition, ends, most, text);
     }
-    paged(longest, CEGRIDOM_LIMIT, 1, NUMBERS(CEGRIDOM_LIMIT), 1,
+    paged(longest, LENGTH, 1, NUMBERS(LENGTH), 1,
           "     1     1  4096     1  4096     0     161                \n");
     /* aabbaabb...: a run for each pair, and the whole word is run 2 */
-    for (uint32_t i = 0; i < CEGRIDOM_MOST_ENDS(CEGRIDOM_LIMIT); i++) {
+    for (uint32_t i = 0; i < CEGRIDOM_MOST_ENDS(LENGTH); i++) {
         word[2 * i] = word[2 * i + 1] = i % 2 == 0 ? 'a' : 'b';
         ends[i] = 2 * i + 2;
         snprintf(text + CEGRIDOM_PAGE_BYTES(i), CEGRIDOM_PAGE_BYTES(1) + 1,
                  "%6u%6u%6u%6u%6u%6u%6u%-18s\n", i + 1, 2 * i + 1, ends[i], 1, 2, 0,
                  i == 0 ? 1 : i + 2, i % 2 == 0 ? "61" : "62");
     }
-    paged(word, CEGRIDOM_LIMIT, 1, ends, CEGRIDOM_MOST_ENDS(CEGRIDOM_LIMIT), text);
+    paged(word, LENGTH, 1, ends, CEGRIDOM_MOST_ENDS(LENGTH), text);
     /* a...ab as the unit; its equal symbols are run 1 */
     static const uint32_t spans[] = {
-        9, 10, 100, UNIT_MEMORY, UNIT_MEMORY + 1, 1500, CEGRIDOM_LIMIT / 2};
+        9, 10, 100, UNIT_MEMORY, UNIT_MEMORY + 1, 1500, LENGTH / 2};
     for (size_t i = 0; i < sizeof spans / sizeof *spans; i++) {
-        for (uint32_t p = 0; p < CEGRIDOM_LIMIT; p++) {
+        for (uint32_t p = 0; p < LENGTH; p++) {
             word[p] = p % spans[i] == spans[i] - 1 ? 'b' : 'a';
         }
-        snprintf(text, sizeof text, "%6u%6u%6u%6u%6u%6u%6u%-18s\n", 1, 1, CEGRIDOM_LIMIT, spans[i],
-                 CEGRIDOM_LIMIT / spans[i], CEGRIDOM_LIMIT % spans[i], 2,
+        snprintf(text, sizeof text, "%6u%6u%6u%6u%6u%6u%6u%-18s\n", 1, 1, LENGTH, spans[i],
+                 LENGTH / spans[i], LENGTH % spans[i], 2,
                  spans[i] == 9 ? "616161616161616162" : "616161616161616161");
         if (spans[i] <= UNIT_MEMORY) {
-            paged(word, CEGRIDOM_LIMIT, 1, NUMBERS(CEGRIDOM_LIMIT), 1, text);
+            paged(word, LENGTH, 1, NUMBERS(LENGTH), 1, text);
         } else {
-            page_refused_first(word, CEGRIDOM_LIMIT, 1, NUMBERS(CEGRIDOM_LIMIT), 1,
+            page_refused_first(word, LENGTH, 1, NUMBERS(LENGTH), 1,
                                CEGRIDOM_NOT_BLOCK, 1);
         }
     }
@@ -1823,7 +1828,7 @@ static void nodes_suffice(const uint8_t *word, size_t n, uint32_t edition, uint3
 
 /* The runs in 4 x n places, none for n = 0, and then the nodes. Gives the count of runs. */
 static uint32_t runs_suffice(const uint8_t *word, size_t n) {
-    static uint32_t rows[CEGRIDOM_MOST_RUN_PLACES(CEGRIDOM_LIMIT)];
+    static uint32_t rows[CEGRIDOM_MOST_RUN_PLACES(LENGTH)];
     fill(table, TABLE_PLACES);
     reset();
     CHECK(in_width_runs(word, n, n > 0 ? records : NULL, CEGRIDOM_MOST_RUN_PLACES(n), &a,
@@ -1842,7 +1847,7 @@ static uint32_t runs_suffice(const uint8_t *word, size_t n) {
 /* The best splits of both editions and into squares (told as edition 0), and their paths, in n/2
    places. */
 static void ends_suffice(const uint8_t *word, size_t n) {
-    static uint32_t ends[CEGRIDOM_MOST_ENDS(CEGRIDOM_LIMIT) + 1];
+    static uint32_t ends[CEGRIDOM_MOST_ENDS(LENGTH) + 1];
     size_t most = CEGRIDOM_MOST_ENDS(n);
     for (uint32_t choice = 1; choice <= 2; choice++) {
         for (uint32_t edition = 0; edition <= 2; edition++) {
@@ -1877,8 +1882,9 @@ static uint32_t suffice(const uint8_t *word, size_t n) {
    with an earlier one, so that the longest begins again with its first symbols at each of these
    places. */
 static void fill_rich(void) {
-    static const size_t places[] = {3,   5,   11,  13,  24,  37,   56,   69,   125,
-                                    162, 218, 380, 505, 667, 1172, 1552, 2057, 3609};
+    static const size_t places[] = {3,    5,    11,   13,    24,    37,    56,    69,    125,
+                                    162,  218,  380,  505,   667,   1172,  1552,  2057,  3609,
+                                    4781, 6333, 11114, 14723, 19504, 34227, 45341, 60064};
     memcpy(rich, "abb", 3);
     for (size_t k = 0; k < sizeof places / sizeof *places; k++) {
         for (size_t i = places[k]; i < sizeof rich; i++) {
@@ -1886,6 +1892,9 @@ static void fill_rich(void) {
         }
     }
 }
+
+/* How many runs the word of the limit's length has. */
+#define RICH_RUNS 66095
 
 /* Words with many runs for their length, and how many. */
 struct rich_case {
@@ -1904,7 +1913,7 @@ static const struct rich_case rich_cases[] = {
     {rich, 125, 110},
     {rich, 505, 467},
     {rich, 1024, 951},
-    {rich, CEGRIDOM_LIMIT, 3851},
+    {rich, LENGTH, 3851},
 };
 
 static void test_sizes(void) {
@@ -1925,7 +1934,7 @@ static void test_sizes(void) {
     for (size_t i = 0; i < sizeof squares_cases / sizeof *squares_cases; i++) {
         suffice((const uint8_t *)squares_cases[i].word, strlen(squares_cases[i].word));
     }
-    for (size_t n = CEGRIDOM_LIMIT - 1; n <= CEGRIDOM_LIMIT; n++) {
+    for (size_t n = LENGTH - 1; n <= LENGTH; n++) {
         CHECK(suffice(longest, n) == 1);
     }
 }
@@ -1953,7 +1962,73 @@ static void test_write_plan(void) {
     CHECK(cegridom_write_plan(8, NUMBERS(2), 1, NULL, 0, &a, &index_) == CEGRIDOM_UNFINISHED);
     CHECK(a == 0 && index_ == 0);
     reset();
-    CHECK(cegridom_write_plan(4097, NUMBERS(0), 1, NULL, 0, &a, &index_) == CEGRIDOM_TOO_LONG);
+    CHECK(cegridom_write_plan(70001, NUMBERS(0), 1, NULL, 0, &a, &index_) == CEGRIDOM_TOO_LONG);
+    CHECK(a == 0 && index_ == 0);
+}
+
+/* Writes the line of one piece of n symbols in just the room that it needs, and in one byte less. */
+static void one_piece(uint32_t n, const char *line) {
+    uint32_t length = (uint32_t)strlen(line);
+    CHECK(length == CEGRIDOM_LINE_BYTES(n, 1));
+    memset(out, '.', sizeof out);
+    reset();
+    CHECK(cegridom_write_plan(n, &n, 1, out, length - 1, &a, &index_) == CEGRIDOM_TOO_FEW_PLACES);
+    CHECK(a == 0 && index_ == 0 && blank(out, sizeof out));
+    reset();
+    CHECK(cegridom_write_plan(n, &n, 1, out, length, &a, &index_) == CEGRIDOM_ACCEPTED);
+    CHECK(a == length && index_ == 0 && memcmp(out, line, length) == 0);
+    CHECK(blank(out + length, sizeof out - length));
+    fill(table, 2);
+    reset();
+    CHECK(cegridom_read_plan(out, length, table, 0, &b, &c, &index_) == CEGRIDOM_TOO_FEW_PLACES);
+    CHECK(b == 0 && c == 0 && index_ == 0 && untouched(table, 2));
+    reset();
+    CHECK(cegridom_read_plan(out, length, table, 1, &b, &c, &index_) == CEGRIDOM_ACCEPTED);
+    CHECK(b == n && c == 1 && index_ == 0 && BEGINS(table, n));
+}
+
+/* Both kinds of line, at the lengths where the kind changes. */
+static void test_lines(void) {
+    CHECK(CEGRIDOM_LIMIT == 70000 && CEGRIDOM_LINE_LIMIT == 4096);
+    CHECK(CEGRIDOM_PLAN_BYTES(0) == 15 && CEGRIDOM_PLAN_BYTES(2) == 25);
+    CHECK(CEGRIDOM_LONG_BYTES(0) == 19 && CEGRIDOM_LONG_BYTES(2) == 33);
+    CHECK(2 * CEGRIDOM_LONG_BYTES(1 | 2) == 80);
+    CHECK(CEGRIDOM_LINE_BYTES(4096, 3) == 30 && CEGRIDOM_LINE_BYTES(4097, 3) == 40);
+    CHECK(2 * CEGRIDOM_LINE_BYTES(4096 | 1, 1 | 2) == 80);
+    CHECK(CEGRIDOM_LONG_ENDS(0) == 0 && CEGRIDOM_LONG_ENDS(18) == 0 && CEGRIDOM_LONG_ENDS(19) == 0);
+    CHECK(CEGRIDOM_LONG_ENDS(25) == 0 && CEGRIDOM_LONG_ENDS(26) == 1 && CEGRIDOM_LONG_ENDS(33) == 2);
+    for (size_t k = 0; k < 100; k++) {
+        CHECK(CEGRIDOM_LONG_ENDS(CEGRIDOM_LONG_BYTES(k)) == k);
+        CHECK(CEGRIDOM_PLAN_ENDS(CEGRIDOM_PLAN_BYTES(k)) == k);
+        CHECK(CEGRIDOM_PLAN_ENDS(CEGRIDOM_LONG_BYTES(k)) >= k);
+    }
+    one_piece(1, "plan,0001,0001,0001\n");
+    one_piece(4095, "plan,4095,0001,4095\n");
+    one_piece(4096, "plan,4096,0001,4096\n");
+    one_piece(4097, "long,004097,000001,004097\n");
+    one_piece(9999, "long,009999,000001,009999\n");
+    one_piece(10000, "long,010000,000001,010000\n");
+    one_piece(65535, "long,065535,000001,065535\n");
+    one_piece(65536, "long,065536,000001,065536\n");
+    one_piece(69999, "long,069999,000001,069999\n");
+    one_piece(70000, "long,070000,000001,070000\n");
+    memset(out, '.', sizeof out);
+    reset();
+    CHECK(cegridom_write_plan(70000, NUMBERS(2, 65536, 70000), 3, out, CEGRIDOM_LONG_BYTES(3), &a,
+                              &index_) == CEGRIDOM_ACCEPTED);
+    CHECK(a == 40 && index_ == 0);
+    CHECK(memcmp(out, "long,070000,000003,000002,065536,070000\n.", 41) == 0);
+    fill(table, 5);
+    reset();
+    CHECK(cegridom_read_plan(out, 40, table, CEGRIDOM_PLAN_ENDS(40), &a, &b, &index_) == 0);
+    CHECK(a == 70000 && b == 3 && index_ == 0 && BEGINS(table, 2, 65536, 70000));
+    reset();
+    CHECK(cegridom_write_plan(70000, NUMBERS(2, 70001), 2, NULL, 0, &a, &index_) ==
+          CEGRIDOM_BAD_END);
+    CHECK(a == 0 && index_ == 2);
+    reset();
+    CHECK(cegridom_write_plan(70000, NUMBERS(65536), 1, NULL, 0, &a, &index_) ==
+          CEGRIDOM_UNFINISHED);
     CHECK(a == 0 && index_ == 0);
 }
 
@@ -1977,10 +2052,35 @@ static void test_read_plan(void) {
         {"plan 0008,0002,0002,0008\n", CEGRIDOM_NOT_PLAN, 0},
         {"plan,8,2,2,8\n", CEGRIDOM_NOT_PLAN, 0},
         {"plan,4097,0001,0000\n", CEGRIDOM_TOO_LONG, 0},
+        {"plan,4097,0001,4097\n", CEGRIDOM_TOO_LONG, 0},
+        {"plan,9999,0001,9999\n", CEGRIDOM_TOO_LONG, 0},
         {"plan,0008,0002,0002,0002\n", CEGRIDOM_BAD_END, 2},
         {"plan,0008,0002,0002,0009\n", CEGRIDOM_BAD_END, 2},
         {"plan,0008,0002,0002,0007\n", CEGRIDOM_UNFINISHED, 0},
         {"plan,0008,0003,0002,0004,0008\n", CEGRIDOM_TOO_FEW_PLACES, 0},
+        /* six digits that are not needed, whatever else is wrong */
+        {"long,004096,000001,004096\n", CEGRIDOM_NOT_PLAN, 0},
+        {"long,000008,000002,000002,000008\n", CEGRIDOM_NOT_PLAN, 0},
+        {"long,000000,000000\n", CEGRIDOM_NOT_PLAN, 0},
+        {"long,004096,000001,070001\n", CEGRIDOM_NOT_PLAN, 0},
+        {"long,000008,000003,000002,000004,000008\n", CEGRIDOM_NOT_PLAN, 0},
+        /* each kind has its own digits */
+        {"long,4097,0001,4097\n", CEGRIDOM_NOT_PLAN, 0},
+        {"plan,004097,000001,004097\n", CEGRIDOM_NOT_PLAN, 0},
+        {"long,004097,000001,4097\n", CEGRIDOM_NOT_PLAN, 0},
+        {"long 004097,000001,004097\n", CEGRIDOM_NOT_PLAN, 0},
+        {"lonG,004097,000001,004097\n", CEGRIDOM_NOT_PLAN, 0},
+        {"long,004097,000001,004097", CEGRIDOM_NOT_PLAN, 0},
+        {"long,004097,000001,004097\n\n", CEGRIDOM_NOT_PLAN, 0},
+        {"long,004097,000002,004097\n", CEGRIDOM_NOT_PLAN, 0},
+        {"long,070001,000002,000000\n", CEGRIDOM_NOT_PLAN, 0},
+        {"long,07000:,000001,070000\n", CEGRIDOM_NOT_PLAN, 0},
+        {"long,070001,000001,000000\n", CEGRIDOM_TOO_LONG, 0},
+        {"long,999999,000000\n", CEGRIDOM_TOO_LONG, 0},
+        {"long,070000,000002,065536,065536\n", CEGRIDOM_BAD_END, 2},
+        {"long,070000,000002,065536,070001\n", CEGRIDOM_BAD_END, 2},
+        {"long,070000,000002,065536,069999\n", CEGRIDOM_UNFINISHED, 0},
+        {"long,070000,000003,000002,065536,070000\n", CEGRIDOM_TOO_FEW_PLACES, 0},
     };
     for (size_t i = 0; i < sizeof refused / sizeof *refused; i++) {
         fill(table, 4);
@@ -2001,19 +2101,29 @@ static void test_read_plan(void) {
     CHECK(cegridom_read_plan(WORD("plan,0004,0004,0001,0002,0003,0004\n"), table,
                              CEGRIDOM_PLAN_ENDS(35), &a, &b, &index_) == 0);
     CHECK(a == 4 && b == 4 && index_ == 0 && BEGINS(table, 1, 2, 3, 4));
-    /* the longest line, written and read back */
-    static uint32_t ends[CEGRIDOM_PLAN_ENDS(CEGRIDOM_PLAN_BYTES(CEGRIDOM_LIMIT))];
+    /* the longest line of each kind, written and read back */
+    static uint32_t ends[CEGRIDOM_LONG_ENDS(CEGRIDOM_LONG_BYTES(CEGRIDOM_LIMIT))];
+    static uint32_t back[CEGRIDOM_PLAN_ENDS(CEGRIDOM_LONG_BYTES(CEGRIDOM_LIMIT))];
+    static uint8_t line[CEGRIDOM_LONG_BYTES(CEGRIDOM_LIMIT)];
     for (uint32_t i = 0; i < CEGRIDOM_LIMIT; i++) {
         ends[i] = i + 1;
     }
-    reset();
-    CHECK(cegridom_write_plan(CEGRIDOM_LIMIT, ends, CEGRIDOM_LIMIT, out, sizeof out, &a, &index_) == 0);
-    CHECK(a == CEGRIDOM_PLAN_BYTES(CEGRIDOM_LIMIT) && index_ == 0);
-    CHECK(cegridom_read_plan(out, a, table, CEGRIDOM_PLAN_ENDS(a) - 1, &b, &c, &index_) ==
-          CEGRIDOM_TOO_FEW_PLACES);
-    CHECK(cegridom_read_plan(out, a, table, CEGRIDOM_PLAN_ENDS(a), &b, &c, &index_) == 0);
-    CHECK(b == CEGRIDOM_LIMIT && c == CEGRIDOM_LIMIT && index_ == 0);
-    CHECK(memcmp(table, ends, sizeof ends) == 0);
+    static const uint32_t lengths[] = {CEGRIDOM_LINE_LIMIT, CEGRIDOM_LIMIT};
+    for (size_t i = 0; i < 2; i++) {
+        const uint32_t n = lengths[i];
+        reset();
+        CHECK(cegridom_write_plan(n, ends, n, line, CEGRIDOM_LINE_BYTES(n, n) - 1, &a, &index_) ==
+              CEGRIDOM_TOO_FEW_PLACES);
+        CHECK(cegridom_write_plan(n, ends, n, line, CEGRIDOM_LINE_BYTES(n, n), &a, &index_) == 0);
+        CHECK(a == CEGRIDOM_LINE_BYTES(n, n) && index_ == 0 && line[a - 1] == '\n');
+        fill(back, n);
+        CHECK(cegridom_read_plan(line, a, back, n - 1, &b, &c, &index_) ==
+              CEGRIDOM_TOO_FEW_PLACES);
+        CHECK(untouched(back, n));
+        CHECK(cegridom_read_plan(line, a, back, CEGRIDOM_PLAN_ENDS(a), &b, &c, &index_) == 0);
+        CHECK(b == n && c == n && index_ == 0);
+        CHECK(memcmp(back, ends, n * sizeof *ends) == 0);
+    }
 }
 
 /* What a call on a short word leaves, in tables with places beside them. */
@@ -2430,9 +2540,9 @@ static void test_code_pairs(void) {
 /* More codes than bytes have. */
 static void test_many_codes(void) {
     static uint16_t word[CEGRIDOM_LIMIT + 1];
-    const uint32_t half = CEGRIDOM_LIMIT / 2, whole = CEGRIDOM_LIMIT;
+    const uint32_t half = LENGTH / 2, whole = LENGTH;
     /* 2,048 different codes, twice: one square, whose unit is too long for a block */
-    for (uint32_t i = 0; i < CEGRIDOM_LIMIT; i++) {
+    for (uint32_t i = 0; i < LENGTH; i++) {
         word[i] = (uint16_t)(40503 * (i % half + 1));
     }
     uint32_t root = 1;
@@ -2441,62 +2551,284 @@ static void test_many_codes(void) {
     }
     fill(table, TABLE_PLACES);
     reset();
-    CHECK(cegridom_runs_16(word, CEGRIDOM_LIMIT, records, 4, &a, &index_) == CEGRIDOM_ACCEPTED);
+    CHECK(cegridom_runs_16(word, LENGTH, records, 4, &a, &index_) == CEGRIDOM_ACCEPTED);
     CHECK(a == 1 && index_ == 0 && table[0] == GUARD && BEGINS(records, 1, whole, half, root));
     reset();
-    CHECK(cegridom_judge_squares_16(word, CEGRIDOM_LIMIT, &whole, 1, &a, &index_) ==
+    CHECK(cegridom_judge_squares_16(word, LENGTH, &whole, 1, &a, &index_) ==
           CEGRIDOM_ACCEPTED);
     CHECK(a == 1 && index_ == 0);
     reset();
-    CHECK(cegridom_judge_split_16(word, CEGRIDOM_LIMIT, 1, &whole, 1, &a, &index_) ==
+    CHECK(cegridom_judge_split_16(word, LENGTH, 1, &whole, 1, &a, &index_) ==
           CEGRIDOM_NOT_BLOCK);
     CHECK(a == 0 && index_ == 1);
     for (uint32_t choice = 1; choice <= 2; choice++) {
         fill(table, TABLE_PLACES);
         fill(work, WORK);
         reset();
-        CHECK(cegridom_best_squares_16(word, CEGRIDOM_LIMIT, choice, joints, JOINTS, scratch,
+        CHECK(cegridom_best_squares_16(word, LENGTH, choice, joints, JOINTS, scratch,
                                        SCRATCH, &a, &index_) == CEGRIDOM_ACCEPTED);
         CHECK(a == 1 && index_ == 0 && table[0] == GUARD && BEGINS(joints, whole));
         reset();
-        CHECK(cegridom_best_split_16(word, CEGRIDOM_LIMIT, 1, choice, joints, JOINTS, scratch,
+        CHECK(cegridom_best_split_16(word, LENGTH, 1, choice, joints, JOINTS, scratch,
                                      SCRATCH, &a, &index_) == CEGRIDOM_NO_SPLIT);
         CHECK(a == 0 && index_ == 0);
     }
     fill(table, TABLE_PLACES);
     reset();
-    CHECK(cegridom_part_16(word, CEGRIDOM_LIMIT, 1, 1, whole, units, CEGRIDOM_LIMIT, &a, &b, &c, &d,
+    CHECK(cegridom_part_16(word, LENGTH, 1, 1, whole, units, LENGTH, &a, &b, &c, &d,
                            &index_) == CEGRIDOM_ACCEPTED);
     CHECK(a == half && b == 2 && c == 0 && d == 0 && index_ == 0);
-    CHECK(table[0] == GUARD && units[half - 1] == half && units[CEGRIDOM_LIMIT] == GUARD);
+    CHECK(table[0] == GUARD && units[half - 1] == half && units[LENGTH] == GUARD);
     /* the last symbol changed in its high byte */
-    word[CEGRIDOM_LIMIT - 1] ^= 0x4000;
+    word[LENGTH - 1] ^= 0x4000;
     reset();
-    CHECK(cegridom_judge_squares_16(word, CEGRIDOM_LIMIT, &whole, 1, &a, &index_) ==
+    CHECK(cegridom_judge_squares_16(word, LENGTH, &whole, 1, &a, &index_) ==
           CEGRIDOM_NOT_BLOCK);
     CHECK(a == 0 && index_ == 1);
     /* 256 codes of one low byte as the unit, which memory holds */
-    for (uint32_t i = 0; i < CEGRIDOM_LIMIT; i++) {
+    for (uint32_t i = 0; i < LENGTH; i++) {
         word[i] = (uint16_t)(256 * (i % 256) + 7);
     }
     fill(table, TABLE_PLACES);
     reset();
-    CHECK(cegridom_best_split_16(word, CEGRIDOM_LIMIT, 1, CEGRIDOM_FEWEST, joints, 1, scratch,
-                                 CEGRIDOM_WORK_PLACES(CEGRIDOM_LIMIT), &a, &index_) ==
+    CHECK(cegridom_best_split_16(word, LENGTH, 1, CEGRIDOM_FEWEST, joints, 1, scratch,
+                                 CEGRIDOM_WORK_PLACES(LENGTH), &a, &index_) ==
           CEGRIDOM_ACCEPTED);
     CHECK(a == 1 && index_ == 0 && table[0] == GUARD && BEGINS(joints, whole));
-    code_page(word, CEGRIDOM_LIMIT, 1, &whole, 1,
+    code_page(word, LENGTH, 1, &whole, 1,
               "     1     1  4096   256    16     0     10007010702070307  \n");
     /* 4,096 different codes, and one more symbol */
-    for (uint32_t i = 0; i < CEGRIDOM_LIMIT; i++) {
+    for (uint32_t i = 0; i < LENGTH; i++) {
         word[i] = (uint16_t)(16 * i + i / 256);
     }
     reset();
-    CHECK(cegridom_runs_16(word, CEGRIDOM_LIMIT, NULL, 0, &a, &index_) == CEGRIDOM_ACCEPTED);
+    CHECK(cegridom_runs_16(word, LENGTH, NULL, 0, &a, &index_) == CEGRIDOM_ACCEPTED);
     CHECK(a == 0 && index_ == 0);
     reset();
     CHECK(cegridom_runs_16(word, CEGRIDOM_LIMIT + 1, NULL, 0, &a, &index_) == CEGRIDOM_TOO_LONG);
     CHECK(a == 0 && index_ == 0);
+}
+
+/* Tables for a word of the limit's length; a place before each and one after it are watched too. */
+static struct {
+    uint32_t before, table[CEGRIDOM_MOST_RUN_PLACES(CEGRIDOM_LIMIT)], after;
+} most;
+static struct {
+    uint32_t before, work[CEGRIDOM_WORK_PLACES(CEGRIDOM_LIMIT)], after;
+} rows;
+static struct {
+    uint8_t before, bytes[CEGRIDOM_PAGE_BYTES(CEGRIDOM_MOST_ENDS(CEGRIDOM_LIMIT))], after;
+} sheet;
+static uint32_t most_ends[CEGRIDOM_MOST_ENDS(CEGRIDOM_LIMIT)];
+static uint32_t steps[2 * CEGRIDOM_MOST_ENDS(CEGRIDOM_LIMIT)];
+
+#define MOST_PLACES (sizeof most / sizeof(uint32_t))
+#define ROW_PLACES (sizeof rows / sizeof(uint32_t))
+
+static void fill_most(void) {
+    fill((uint32_t *)&most, MOST_PLACES);
+    fill((uint32_t *)&rows, ROW_PLACES);
+    memset(&sheet, '.', sizeof sheet);
+    reset();
+}
+
+/* All but the first places of the table lent are untouched. */
+static int only_first(size_t count) {
+    return most.before == GUARD && untouched(most.table + count, MOST_PLACES - 1 - count);
+}
+
+/* The working table after a best split: sizes for each prefix, then 0, and nothing beside it. */
+static int sizes_are(uint32_t shortest, uint32_t n, uint32_t each) {
+    int hold = rows.before == GUARD && rows.after == GUARD && rows.work[0] == 0;
+    for (uint32_t m = 1; m <= n; m++) {
+        hold &= rows.work[m] == (m < shortest ? CEGRIDOM_NONE : each == 0 ? 1 : m / each);
+    }
+    for (size_t i = n + 1; i < CEGRIDOM_WORK_PLACES((size_t)n); i++) {
+        hold &= rows.work[i] == 0;
+    }
+    return hold;
+}
+
+/* Equal symbols, as many as the limit: one run, the whole as one block, and as blocks of two or
+   three. */
+static void test_limit_equal(void) {
+    const uint32_t n = CEGRIDOM_LIMIT;
+    fill_most();
+    CHECK(in_width_runs(longest, n, most.table, 3, &a, &index_) == CEGRIDOM_TOO_FEW_PLACES);
+    CHECK(a == 0 && index_ == 0 && only_first(0));
+    reset();
+    CHECK(in_width_runs(longest, n, most.table, CEGRIDOM_MOST_RUN_PLACES(n), &a, &index_) == 0);
+    CHECK(a == 1 && index_ == 0 && BEGINS(most.table, 1, n, 1, 1) && only_first(4));
+    for (uint32_t edition = 1; edition <= 2; edition++) {
+        uint32_t turns = edition + 1, blocks = n / turns;
+        fill_most();
+        CHECK(in_width_part(longest, n, edition, 1, n, most.table, n, &a, &b, &c, &d, &index_) ==
+              0);
+        int ones = 1;
+        for (uint32_t i = 0; i < n; i++) {
+            ones &= most.table[i] == 1;
+        }
+        CHECK(a == 1 && b == n && c == 0 && d == 1 && index_ == 0 && ones && only_first(n));
+        fill_most();
+        CHECK(in_width_nodes(longest, n, edition, n, most.table, n, &a, &index_) == 0);
+        CHECK(a == 1 && index_ == 0 && most.table[0] == 1 && only_first(1));
+        fill_most();
+        CHECK(in_width_best_split(longest, n, edition, CEGRIDOM_FEWEST, most.table, 1, rows.work,
+                                  CEGRIDOM_WORK_PLACES(n), &a, &index_) == 0);
+        CHECK(a == 1 && index_ == 0 && most.table[0] == n && only_first(1));
+        CHECK(sizes_are(turns, n, 0));
+        fill_most();
+        CHECK(in_width_best_split(longest, n, edition, CEGRIDOM_MOST, most.table, blocks - 1,
+                                  rows.work, CEGRIDOM_WORK_PLACES(n), &a, &index_) ==
+              CEGRIDOM_TOO_FEW_PLACES);
+        CHECK(a == 0 && index_ == 0 && only_first(0) && sizes_are(turns, n, turns));
+        CHECK(in_width_best_split(longest, n, edition, CEGRIDOM_MOST, most.table, blocks,
+                                  rows.work, CEGRIDOM_WORK_PLACES(n) - 1, &a, &index_) ==
+              CEGRIDOM_SHORT_TABLE);
+        CHECK(in_width_best_split(longest, n, edition, CEGRIDOM_MOST, most.table, blocks,
+                                  rows.work, CEGRIDOM_WORK_PLACES(n), &a, &index_) == 0);
+        CHECK(a == blocks && index_ == 0 && only_first(blocks) && sizes_are(turns, n, turns));
+        int even = most.table[blocks - 1] == n;
+        for (uint32_t i = 0; i + 1 < blocks; i++) {
+            even &= most.table[i] == turns * (i + 1);
+        }
+        CHECK(even);
+        memcpy(most_ends, most.table, blocks * sizeof *most_ends);
+        reset();
+        CHECK(in_width_judge_split(longest, n, edition, most_ends, blocks, &a, &index_) == 0);
+        CHECK(a == blocks && index_ == 0);
+        fill_most();
+        CHECK(in_width_path_of_split(longest, n, edition, most_ends, blocks, most.table, blocks, &a,
+                                     &index_) == 0);
+        ones = 1;
+        for (uint32_t i = 0; i < blocks; i++) {
+            ones &= most.table[i] == 1;
+            steps[2 * i] = 1;
+            steps[2 * i + 1] = most_ends[i];
+        }
+        CHECK(a == blocks && index_ == 0 && ones && only_first(blocks));
+        reset();
+        CHECK(in_width_judge_path(longest, n, edition, steps, 2 * blocks, &a, &index_) == 0);
+        CHECK(a == blocks && index_ == 0);
+        fill_most();
+        CHECK(in_width_write_page(longest, n, edition, most_ends, blocks, sheet.bytes,
+                                  CEGRIDOM_PAGE_BYTES(blocks), &a, &index_) == 0);
+        CHECK(a == CEGRIDOM_PAGE_BYTES(blocks) && index_ == 0 && sheet.before == '.');
+        CHECK(edition == 1 ? sheet.after == '.' : sheet.bytes[CEGRIDOM_PAGE_BYTES(blocks)] == '.');
+        char line[CEGRIDOM_PAGE_BYTES(1) + 1];
+        uint32_t before = most_ends[blocks - 2];
+        snprintf(line, sizeof line, "%6u%6u%6u%6u%6u%6u%6u", blocks, before + 1, n, 1, n - before,
+                 0, 1);
+        CHECK(memcmp(sheet.bytes + CEGRIDOM_PAGE_BYTES(blocks - 1), line, 42) == 0);
+        fill_most();
+        CHECK(in_width_which_first(longest, n - 1, longest, n, edition, rows.work,
+                                   CEGRIDOM_WORK_PLACES(n), &a, &index_) == 0);
+        CHECK(a == 1 && index_ == 0 && rows.before == GUARD && rows.after == GUARD);
+        CHECK(in_width_first_block(longest, n, longest + 1, n, edition, rows.work,
+                                   CEGRIDOM_WORK_PLACES(n), &a, &b) == 0);
+        CHECK(a == 1 && b == n && rows.before == GUARD && rows.after == GUARD);
+    }
+    for (uint32_t choice = 1; choice <= 2; choice++) {
+        uint32_t squares = choice == 1 ? 1 : n / 2;
+        fill_most();
+        CHECK(in_width_best_squares(longest, n, choice, most.table, squares, rows.work,
+                                    CEGRIDOM_WORK_PLACES(n), &a, &index_) == 0);
+        CHECK(a == squares && index_ == 0 && most.table[squares - 1] == n && only_first(squares));
+        CHECK(rows.work[n] == squares && rows.work[n - 1] == CEGRIDOM_NONE && rows.work[n + 1] == 0);
+        memcpy(most_ends, most.table, squares * sizeof *most_ends);
+        CHECK(in_width_judge_squares(longest, n, most_ends, squares, &a, &index_) == 0);
+        CHECK(a == squares && index_ == 0);
+    }
+}
+
+/* A word of so many runs that their numbers take more than 16 bits: they stand in the tables of
+   runs, nodes and paths, and in a page. */
+static void test_limit_rich(void) {
+    const uint32_t n = CEGRIDOM_LIMIT, count = RICH_RUNS;
+    fill_most();
+    CHECK(in_width_runs(rich, n, most.table, CEGRIDOM_RUN_PLACES(count) - 1, &a, &index_) ==
+          CEGRIDOM_TOO_FEW_PLACES);
+    CHECK(a == 0 && index_ == 0 && only_first(0));
+    CHECK(in_width_runs(rich, n, most.table, CEGRIDOM_RUN_PLACES(count), &a, &index_) == 0);
+    CHECK(a == count && index_ == 0 && only_first(CEGRIDOM_RUN_PLACES(count)));
+    const uint32_t *last = most.table + CEGRIDOM_RUN_PLACES(count - 1);
+    CHECK(last[0] > 65536 && last[1] == n && last[3] >= last[0]);
+    fill_most();
+    CHECK(in_width_nodes(rich, n, 1, n, most.table, n, &a, &index_) == 0);
+    CHECK(a > 0 && index_ == 0 && most.table[a - 1] == count && only_first(a));
+    fill_most();
+    CHECK(in_width_best_split(rich, n, 1, CEGRIDOM_MOST, most_ends, CEGRIDOM_MOST_ENDS(n),
+                              rows.work, CEGRIDOM_WORK_PLACES(n), &a, &index_) == 0);
+    uint32_t blocks = a;
+    CHECK(blocks > 0 && blocks == rows.work[n] && most_ends[blocks - 1] == n);
+    if (blocks == 0) {
+        return;
+    }
+    CHECK(in_width_path_of_split(rich, n, 1, most_ends, blocks, most.table, blocks, &a, &index_) ==
+          0);
+    CHECK(a == blocks && index_ == 0 && most.table[blocks - 1] > 65535 && only_first(blocks));
+    for (uint32_t i = 0; i < blocks; i++) {
+        steps[2 * i] = most.table[i];
+        steps[2 * i + 1] = most_ends[i];
+    }
+    reset();
+    CHECK(in_width_judge_path(rich, n, 1, steps, 2 * blocks, &a, &index_) == 0);
+    CHECK(a == blocks && index_ == 0);
+    /* what 16 bits would take for the same number */
+    steps[2 * blocks - 2] -= 65536;
+    reset();
+    CHECK(in_width_judge_path(rich, n, 1, steps, 2 * blocks, &a, &index_) == CEGRIDOM_NOT_BLOCK);
+    CHECK(a == 0 && index_ == blocks);
+    CHECK(in_width_write_page(rich, n, 1, most_ends, blocks, sheet.bytes,
+                              CEGRIDOM_PAGE_BYTES(blocks), &a, &index_) == 0);
+    char number[8];
+    snprintf(number, sizeof number, "%6u", most.table[blocks - 1]);
+    CHECK(a == CEGRIDOM_PAGE_BYTES(blocks) && index_ == 0);
+    CHECK(memcmp(sheet.bytes + CEGRIDOM_PAGE_BYTES(blocks - 1) + 36, number, 6) == 0);
+}
+
+/* Units, positions and ends that take more than 16 bits. */
+static void test_limit_numbers(void) {
+    static uint8_t word[CEGRIDOM_LIMIT];
+    const uint32_t n = CEGRIDOM_LIMIT;
+    /* 65,537 symbols, of which the first alone stands again */
+    memset(word, 'a', sizeof word);
+    word[0] = word[65537] = 'b';
+    fill_most();
+    CHECK(in_width_part(word, n, 1, 1, 65538, most.table, 65538, &a, &b, &c, &d, &index_) == 0);
+    CHECK(a == 65537 && b == 1 && c == 1 && d == 0 && index_ == 0 && only_first(65538));
+    CHECK(most.table[1] == 2 && most.table[65535] == 65536 && most.table[65536] == 65537);
+    fill_most();
+    CHECK(in_width_part(word, n, 1, 65539, n, most.table, n, &a, &b, &c, &d, &index_) == 0);
+    CHECK(a == 1 && b == n - 65538 && c == 0 && d == 1 && only_first(n - 65538));
+    fill_most();
+    CHECK(in_width_nodes(word, n, 1, 65540, most.table, n, &a, &index_) == 0);
+    CHECK(a == 1 && most.table[0] == 2 && only_first(1));
+    reset();
+    CHECK(in_width_nodes(word, n, 1, n + 1, most.table, n, &a, &index_) == CEGRIDOM_BAD_POSITION);
+    CHECK(a == 0 && index_ == 0);
+    /* aabb: ends above 65,535, and one that 16 bits would take for another */
+    for (uint32_t i = 0; i < n; i++) {
+        word[i] = i < 65536 ? 'a' : 'b';
+    }
+    const uint32_t ends[] = {65536, n}, near[] = {65536, 65537, n};
+    reset();
+    CHECK(in_width_judge_split(word, n, 1, ends, 2, &a, &index_) == 0);
+    CHECK(a == 2 && index_ == 0);
+    reset();
+    CHECK(in_width_judge_split(word, n, 1, near, 3, &a, &index_) == CEGRIDOM_NOT_BLOCK);
+    CHECK(a == 0 && index_ == 2);
+    fill_most();
+    CHECK(in_width_best_split(word, n, 2, CEGRIDOM_FEWEST, most.table, 2, rows.work,
+                              CEGRIDOM_WORK_PLACES(n), &a, &index_) == 0);
+    CHECK(a == 2 && index_ == 0 && BEGINS(most.table, 65536, n) && only_first(2));
+    fill_most();
+    CHECK(in_width_write_page(word, n, 1, ends, 2, sheet.bytes, CEGRIDOM_PAGE_BYTES(2), &a,
+                              &index_) == 0);
+    CHECK(a == CEGRIDOM_PAGE_BYTES(2) && index_ == 0);
+    CHECK(memcmp(sheet.bytes, "     1     1 65536     1 65536     0     1", 42) == 0);
+    CHECK(memcmp(sheet.bytes + 61, "     2 65537 70000     1  4464     0     2", 42) == 0);
+    CHECK(sheet.bytes[122] == '.');
 }
 
 /* Every test on words, of what these are made of. */
@@ -2519,6 +2851,12 @@ static void test_words(void) {
     test_longest_page();
     test_unit_memory();
     test_sizes();
+    /* these take their time: once for each width */
+    if (spelling == BYTES || spelling == HIGH_BYTE) {
+        test_limit_equal();
+        test_limit_rich();
+        test_limit_numbers();
+    }
 }
 
 int main(void) {
@@ -2537,6 +2875,7 @@ int main(void) {
     test_code_pairs();
     test_many_codes();
     test_write_plan();
+    test_lines();
     test_read_plan();
     if (failed > 0) {
         fprintf(stderr, "C interface: %u checks failed\n", failed);

@@ -363,20 +363,20 @@ def show_longest(edition, most):
 
 def show_too_long(edition):
     """One pass more: refusal 1 comes first in every call."""
-    word = b"a" * 4097
+    word = b"a" * 70001
     outcome, table = nodes(word, edition, 0, lent(4))
-    print(fields("4097 equal", edition, " nodes", outcome) + listed(table))
+    print(fields("70001 equal", edition, " nodes", outcome) + listed(table))
     outcome, _, work = best_split(word, edition, 0, lent(4), lent(4))
-    print(fields("4097 equal", edition, " best", outcome) + listed(work))
-    print(fields("4097 equal", edition, " judge", judge_split(word, edition, [0])))
+    print(fields("70001 equal", edition, " best", outcome) + listed(work))
+    print(fields("70001 equal", edition, " judge", judge_split(word, edition, [0])))
     outcome, table = path_of_split(word, edition, [0], lent(4))
-    print(fields("4097 equal", edition, " path", outcome) + listed(table))
-    print(fields("4097 equal", edition, " judge path", judge_path(word, edition, [0])))
+    print(fields("70001 equal", edition, " path", outcome) + listed(table))
+    print(fields("70001 equal", edition, " judge path", judge_path(word, edition, [0])))
 
 
 def show_too_long_runs():
-    outcome, table = runs(b"a" * 4097, lent(4))
-    print(fields("4097 equal", " runs", outcome) + listed(table))
+    outcome, table = runs(b"a" * 70001, lent(4))
+    print(fields("70001 equal", " runs", outcome) + listed(table))
 
 
 def generated(count):

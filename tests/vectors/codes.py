@@ -47,7 +47,7 @@ PAIRS = [  # two words, an edition
 ]
 
 REFUSED = [  # word, edition, choice; with one place in each table
-    ((256,) * 4097, 3, 3),
+    ((256,) * 70001, 3, 3),
     (W8, 3, 3),
     (W8, 1, 1),
 ]

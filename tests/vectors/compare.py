@@ -72,8 +72,8 @@ SYMBOLS = [  # name, two words, an edition; 29 places, as the case before leaves
 LIMITS = [  # the same with 16,389 places
     ("4096 equal,4096 equal,1", [97] * 4096, [97] * 4096, 1),
     ("aabb,4096 equal,2", [97, 97, 98, 98], [97] * 4096, 2),
-    ("4097 equal,aa,3", [97] * 4097, [97] * 2, 3),
-    ("aa,4097 equal,3", [97] * 2, [97] * 4097, 3),
+    ("70001 equal,aa,3", [97] * 70001, [97] * 2, 3),
+    ("aa,70001 equal,3", [97] * 2, [97] * 70001, 3),
 ]
 
 

@@ -15,7 +15,7 @@ import re
 from functools import lru_cache
 from itertools import combinations, product
 
-LIMIT = 4096
+LIMIT = 70000
 NONE = 4294967295
 FEWEST, MOST = 1, 2
 TURNS = {1: 2, 2: 3}  # k of each edition
@@ -377,23 +377,28 @@ def write_page(word, edition, ends, out):
 
 # ---- plans
 
-PLAN = re.compile(rb"plan,([0-9]{4}),([0-9]{4})((?:,[0-9]{4})*)\n")
+# "Stored plan lines have four digits, so above 4,096 passes the line begins with long and a comma and has
+# six digits a number."
+LINE_LIMIT = 4096
+PLAN_LINE = re.compile(rb"plan,([0-9]{4}),([0-9]{4})((?:,[0-9]{4})*)\n")
+LONG_LINE = re.compile(rb"long,([0-9]{6}),([0-9]{6})((?:,[0-9]{6})*)\n")
 
 
 def plan_line(n, ends):
-    return b"plan,%04d,%04d%s\n" % (n, len(ends), b"".join(b",%04d" % end for end in ends))
+    name, digits = (b"long", 6) if n > LINE_LIMIT else (b"plan", 4)
+    return b",".join([name] + [b"%0*d" % (digits, number) for number in [n, len(ends)] + ends]) + b"\n"
 
 
-def plausible(n, ends):
+def plausible(limit, n, ends):
     """1; 3 for each end; 5. A plan line carries no passes, so every piece will do."""
-    if n > LIMIT:
+    if n > limit:
         return refused(1)
     return verdict(n, ends, lambda index, a, b: True)
 
 
 def write_plan(n, ends, out):
     """Write a plan: 1; 3 for each end; 5; 7. Gives the count of bytes."""
-    outcome = plausible(n, ends)
+    outcome = plausible(LIMIT, n, ends)
     if is_refused(outcome):
         return outcome, out
     line = list(plan_line(n, ends))
@@ -404,14 +409,16 @@ def write_plan(n, ends, out):
 
 def read_plan(line, table):
     """Read a plan: 11; then as for writing. Gives n and the count of ends."""
-    form = PLAN.fullmatch(line)
+    form, limit = PLAN_LINE.fullmatch(line), LINE_LIMIT
     if not form:
-        return refused(11), table
+        form, limit = LONG_LINE.fullmatch(line), LIMIT
+        if not form or int(form[1]) <= LINE_LIMIT:
+            return refused(11), table
     n, count = int(form[1]), int(form[2])
     ends = [int(end) for end in form[3].split(b",")[1:]]
     if count != len(ends):
         return refused(11), table
-    outcome = plausible(n, ends)
+    outcome = plausible(limit, n, ends)
     if is_refused(outcome):
         return outcome, table
     if len(table) < len(ends):
@@ -693,10 +700,10 @@ def compare_squares_with_examples():
         expect(judge_squares(word, ends) == outcome, "judged squares", word, ends)
     # 1, 8, 9 and 2 in this order; both tables are kept after the first three
     kept = [7], [7] * 11
-    refusals = (b"a" * 4097, 3, 1), (b"ab", 3, 8), (b"ab", 0, 8), (b"ab", 1, 9), (b"ab", 2, 9)
+    refusals = (b"a" * 70001, 3, 1), (b"ab", 3, 8), (b"ab", 0, 8), (b"ab", 1, 9), (b"ab", 2, 9)
     for word, choice, number in refusals:
         expect(best_squares(word, choice, *kept) == (refused(number), *kept), "refusal", number)
-    expect(judge_squares(b"a" * 4097, [0]) == refused(1), "refusal 1 of judge squares")
+    expect(judge_squares(b"a" * 70001, [0]) == refused(1), "refusal 1 of judge squares")
     expect(not is_primitive(b"abab") and is_primitive(b"aba") and is_primitive(b"a"), "primitive")
 
 
@@ -800,14 +807,14 @@ def compare_with_document():
         expect(first_block(a, b, edition, [7] * 89)[0] == block, "first block of", a, b, edition)
     # 1, 12, 9 and 2 in this order, 1 and 9 for the longer wherever it stands; the table is kept
     kept = [7] * 11
-    for longer, edition, number in (b"a" * 4097, 3, 1), (b"ab", 3, 12), (b"ab", 1, 9):
+    for longer, edition, number in (b"a" * 70001, 3, 1), (b"ab", 3, 12), (b"ab", 1, 9):
         for a, b in (longer, b"a"), (b"a", longer):
             expect(which_first(a, b, edition, kept) == (refused(number), kept), "refusal", number)
             expect(first_block(a, b, edition, kept) == (b"", kept), "the part after", number)
     for word, found in RUNS_OF:
         expect(runs_of(word) == found, "runs of", word)
         compare_runs(word)
-    expect(runs(b"a" * 4097, [7]) == (refused(1), [7]), "refusal 1 of runs")
+    expect(runs(b"a" * 70001, [7]) == (refused(1), [7]), "refusal 1 of runs")
 
 
 def main():

@@ -91,8 +91,8 @@ def main():
     lent = 61 * 2048 + 1
     show(("4096 equal, blocks of 2", 1), b"a" * 4096, 1, twos, lent, lent - 123)
     # refusal 1 comes before 12
-    outcome, _ = write_page(b"a" * 4097, 3, twos, list(b"." * lent))
-    print("page", "4097 equal", 3, *outcome, sep=",")
+    outcome, _ = write_page(b"a" * 70001, 3, twos, list(b"." * lent))
+    print("page", "70001 equal", 3, *outcome, sep=",")
 
 
 if __name__ == "__main__":

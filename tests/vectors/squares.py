@@ -176,12 +176,12 @@ def show_brief(name, word, choice, ends, work):
 def show_limits():
     """The limit, and refusal 1, which comes before 8."""
     tables = lent(2049), lent(4 * 4097 + 1)
-    for n, choice in (4096, 1), (4096, 2), (4095, 2), (4097, 1), (4097, 3):
+    for n, choice in (4096, 1), (4096, 2), (4095, 2), (70001, 1), (70001, 3):
         tables = show_brief(f"{n} equal", b"a" * n, choice, *tables)
     for ends in [4096], [2048, 4096], [4095, 4096], [4096, 4097]:
         print("judge", "4096 equal", *ends, *judge_squares(b"a" * 4096, ends), sep=",")
     for ends in [0], [4097]:
-        print("judge", "4097 equal", *ends, *judge_squares(b"a" * 4097, ends), sep=",")
+        print("judge", "70001 equal", *ends, *judge_squares(b"a" * 70001, ends), sep=",")
 
 
 def main():

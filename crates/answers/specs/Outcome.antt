@@ -8,9 +8,9 @@ use Rattle.answers.specs.declared.Counted.the-variants.{Count, Refused}
 use Rattle.answers.specs.declared.Refusal.{Refusal}
 use Rattle.answers.specs.declared.Refusal.the-variants.{TooLong, NoFactorization, BadEnd, NotBlock, Unfinished, BadPosition, TooFewPlaces, BadChoice, ShortTable, OddPath, NotPlan, BadEdition}
 
--- "The limit is n = 4,096."
+-- "The limit of the library becomes 70,000"
 abbrev pub limit : ℕ
-limit = 4096
+limit = 70000
 
 -- an answer with its values, or a refusal: "A refusal returns its number; 3 and 4 add the index of the end, from 1; others add 0."
 pub data Outcome : Type 0 where

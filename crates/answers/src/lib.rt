@@ -4,7 +4,7 @@ ghost use mathlib.Core.Path.{_≡_};
 ghost use Rattle.answers.specs.Outcome.{codeOf};
 
 // The longest word (sequence) that the library takes.
-pub const LIMIT: usize = 4096;
+pub const LIMIT: usize = 70000;
 
 pub enum Refusal {
     // 1: the word is longer than the limit

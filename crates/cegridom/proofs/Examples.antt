@@ -59,5 +59,5 @@ unfolding squaresJudgedOutcome verdict square?
 squares-judged = refl
 
 -- 0.10
-pub version-is-0-10 : version ≡ 10
-version-is-0-10 = refl
+pub version-is-0-11 : version ≡ 11
+version-is-0-11 = refl

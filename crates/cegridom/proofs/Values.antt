@@ -114,7 +114,7 @@ write-values n ends t o u (WriteMeaning.written a m l b e k) = known 1 o _ e ref
 
 pub read-values : (s t : List ℕ) (o : Outcome) (u : List ℕ) → ReadMeaning s t o u → HasValues 2 o
 read-values s t o u (ReadMeaning.no-line a e k) = known 2 o (refused 11 0) e (lit≤ tt)
-read-values s t o u (ReadMeaning.too-long n ends l a e k) = known 2 o (refused 1 0) e (lit≤ tt)
-read-values s t o u (ReadMeaning.implausible n ends l a x i m e k) = known 2 o (refused x i) e (verdict-values _ n ends (refused x i) m)
-read-values s t o u (ReadMeaning.too-few n ends l a m b e k) = known 2 o (refused 7 0) e (lit≤ tt)
-read-values s t o u (ReadMeaning.plan n ends l a m b e k) = known 2 o _ e refl
+read-values s t o u (ReadMeaning.too-long long n ends l a e k) = known 2 o (refused 1 0) e (lit≤ tt)
+read-values s t o u (ReadMeaning.implausible long n ends l a x i m e k) = known 2 o (refused x i) e (verdict-values _ n ends (refused x i) m)
+read-values s t o u (ReadMeaning.too-few long n ends l a m b e k) = known 2 o (refused 7 0) e (lit≤ tt)
+read-values s t o u (ReadMeaning.plan long n ends l a m b e k) = known 2 o _ e refl

@@ -45,6 +45,6 @@ PathHanded w edition ends t u = PathMeaning w edition ends t (pathOutcome w edit
 abbrev pub PageHanded : Form → List ℕ → ℕ → List ℕ → List ℕ → List ℕ → Type 0
 PageHanded form w edition ends t u = PageMeaning form w edition ends t (pageOutcome form w edition ends (length t)) u
 
--- 1,000 × the major number + the minor one, of version 0.10
+-- 1,000 × the major number + the minor one, of version 0.11
 abbrev pub version : ℕ
-version = 10
+version = 11

@@ -153,7 +153,7 @@ pub extern "C" fn cegridom_first_block_16(
     ensures worked { λ _. ⌜ now (work .exit) ≡ whichWork (now (a .entry)) (now (b .entry)) edition (now (work .entry)) ⌝ }
     ensures meaning { λ _. ⌜ FirstMeaning (now (a .entry)) (now (b .entry)) edition (now (work .entry)) (now (which .exit)) (now (symbols .exit)) (now (work .exit)) ⌝ }
 {
-    let answer = comparison::inner::compare(a, b, edition, work);
+    let answer = comparison::compare_16(a, b, edition, work);
     super::hand_over_choice(answer, which, symbols)
 }
 

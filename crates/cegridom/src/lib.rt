@@ -30,7 +30,7 @@ use periods::PartAnswer;
 use plans::PlanAnswer;
 
 // The version of this interface, 1,000 × major + minor.
-pub const VERSION: u32 = 10;
+pub const VERSION: u32 = 11;
 
 // Takes an answer that gives one number apart.
 pub(crate) fn hand_over(answer: Counted, count: &mut u32, index: &mut u32) -> u32
@@ -188,7 +188,7 @@ pub extern "C" fn cegridom_runs(
     ensures written { λ _. ⌜ now (table .exit) ≡ runsTable (now (w .entry)) (now (table .entry)) ⌝ }
     ensures meaning { λ _. ⌜ RunsMeaning (now (w .entry)) (now (table .entry)) (runsOutcome (now (w .entry)) (length (now (table .entry)))) (now (table .exit)) ⌝ }
 {
-    let answer = bytes::runs(w, table);
+    let answer = run_table::runs(w, table);
     hand_over(answer, count, index)
 }
 
@@ -209,7 +209,7 @@ pub extern "C" fn cegridom_nodes(
     ensures written { λ _. ⌜ now (table .exit) ≡ nodesTable (now (w .entry)) edition position (now (table .entry)) ⌝ }
     ensures meaning { λ _. ⌜ NodesMeaning (now (w .entry)) edition position (now (table .entry)) (nodesOutcome (now (w .entry)) edition position (length (now (table .entry)))) (now (table .exit)) ⌝ }
 {
-    let answer = bytes::nodes(w, edition, position, table);
+    let answer = nodes::nodes(w, edition, position, table);
     hand_over(answer, count, index)
 }
 
@@ -232,7 +232,7 @@ pub extern "C" fn cegridom_best_split(
     ensures worked { λ _. ⌜ now (work .exit) ≡ bestWork (now (w .entry)) edition choice (now (work .entry)) ⌝ }
     ensures meaning { λ _. ⌜ BestHanded (now (w .entry)) edition choice (now (ends .entry)) (now (work .entry)) (now (ends .exit)) (now (work .exit)) ⌝ }
 {
-    let answer = bytes::best_split(w, edition, choice, ends, work);
+    let answer = repetitions::best_split(w, edition, choice, ends, work);
     hand_over(answer, size, index)
 }
 
@@ -254,7 +254,7 @@ pub extern "C" fn cegridom_best_squares(
     ensures worked { λ _. ⌜ now (work .exit) ≡ squaresWork (now (w .entry)) choice (now (work .entry)) ⌝ }
     ensures meaning { λ _. ⌜ SquaresHanded (now (w .entry)) choice (now (ends .entry)) (now (work .entry)) (now (ends .exit)) (now (work .exit)) ⌝ }
 {
-    let answer = bytes::best_squares(w, choice, ends, work);
+    let answer = squares::best_squares(w, choice, ends, work);
     hand_over(answer, size, index)
 }
 
@@ -275,7 +275,7 @@ pub extern "C" fn cegridom_which_first(
     ensures worked { λ _. ⌜ now (work .exit) ≡ whichWork (now (a .entry)) (now (b .entry)) edition (now (work .entry)) ⌝ }
     ensures meaning { λ _. ⌜ WhichHanded (now (a .entry)) (now (b .entry)) edition (now (work .entry)) (now (work .exit)) ⌝ }
 {
-    let answer = bytes::which_first(a, b, edition, work);
+    let answer = comparison::which_first(a, b, edition, work);
     hand_over(answer, which, index)
 }
 
@@ -296,7 +296,7 @@ pub extern "C" fn cegridom_first_block(
     ensures worked { λ _. ⌜ now (work .exit) ≡ whichWork (now (a .entry)) (now (b .entry)) edition (now (work .entry)) ⌝ }
     ensures meaning { λ _. ⌜ FirstMeaning (now (a .entry)) (now (b .entry)) edition (now (work .entry)) (now (which .exit)) (now (symbols .exit)) (now (work .exit)) ⌝ }
 {
-    let answer = bytes::compare(a, b, edition, work);
+    let answer = comparison::compare(a, b, edition, work);
     hand_over_choice(answer, which, symbols)
 }
 
@@ -352,7 +352,7 @@ pub extern "C" fn cegridom_path_of_split(
     ensures written { λ _. ⌜ now (table .exit) ≡ pathTable (now (w .entry)) edition (now (ends .entry)) (now (table .entry)) ⌝ }
     ensures meaning { λ _. ⌜ PathHanded (now (w .entry)) edition (now (ends .entry)) (now (table .entry)) (now (table .exit)) ⌝ }
 {
-    let answer = bytes::path_of_split(w, edition, ends, table);
+    let answer = paths::path_of_split(w, edition, ends, table);
     hand_over(answer, blocks, index)
 }
 
@@ -371,7 +371,7 @@ pub extern "C" fn cegridom_judge_path(
     ensures index { λ _. ⌜ now (index .exit) ≡ indexOf (pathJudgedOutcome (now (w .entry)) edition (now (numbers .entry))) ⌝ }
     ensures meaning { λ _. ⌜ PathJudgedMeaning (now (w .entry)) edition (now (numbers .entry)) (pathJudgedOutcome (now (w .entry)) edition (now (numbers .entry))) ⌝ }
 {
-    let answer = bytes::judge_path(w, edition, numbers);
+    let answer = paths::judge_path(w, edition, numbers);
     hand_over(answer, blocks, index)
 }
 
@@ -392,7 +392,7 @@ pub extern "C" fn cegridom_write_page(
     ensures written { λ _. ⌜ now (out .exit) ≡ pageTable byteForm (now (w .entry)) edition (now (ends .entry)) (now (out .entry)) ⌝ }
     ensures meaning { λ _. ⌜ PageHanded byteForm (now (w .entry)) edition (now (ends .entry)) (now (out .entry)) (now (out .exit)) ⌝ }
 {
-    let answer = bytes::write_page(w, edition, ends, out);
+    let answer = pages::write_page(w, edition, ends, out);
     hand_over(answer, bytes, index)
 }
 

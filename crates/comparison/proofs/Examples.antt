@@ -115,15 +115,15 @@ pairs-in-2-hold = tt
 
 -- ---- the refusals in their order: "1 for either, then 12, 9 for the longer, and 2 if neither splits"
 
-pub first-too-long : whichOutcome (replicate 4097 97) word-ab 3 0 ≡ refused 1 0
+pub first-too-long : whichOutcome (replicate 70001 97) word-ab 3 0 ≡ refused 1 0
 unfolding compared
 first-too-long = refl
 
-pub second-too-long : whichOutcome word-ab (replicate 4097 97) 3 0 ≡ refused 1 0
+pub second-too-long : whichOutcome word-ab (replicate 70001 97) 3 0 ≡ refused 1 0
 unfolding compared
 second-too-long = refl
 
-pub longest-taken : whichOutcome (replicate 4096 97) word-ab 3 0 ≡ refused 12 0
+pub longest-taken : whichOutcome (replicate 70000 97) word-ab 3 0 ≡ refused 12 0
 unfolding compared badEdition?
 longest-taken = refl
 
@@ -157,7 +157,7 @@ pub kept-after-12 : whichWork word-aa word-aabaabaa 3 (replicate 36 9) ≡ repli
 unfolding whichWork badEdition?
 kept-after-12 = refl
 
-pub kept-after-1 : whichWork word-aa (replicate 4097 97) 1 (replicate 36 9) ≡ replicate 36 9
+pub kept-after-1 : whichWork word-aa (replicate 70001 97) 1 (replicate 36 9) ≡ replicate 36 9
 unfolding whichWork
 kept-after-1 = refl
 

@@ -1,9 +1,10 @@
-// For this crate's calls and the interface: both words measured over the one table, then compared.
+// For this crate's calls: both words, of either width, measured over the one table, then compared.
 ghost use mathlib.Core.Path.{_≡_};
 ghost use Prim.Native.Nat.{max};
 ghost use lib.ListN.{length, getD};
 ghost use Rattle.answers.specs.Outcome.{countedView};
 ghost use Rattle.periods.specs.Period.{heldPeriod};
+ghost use Rattle.periods.specs.Width.{wordOf};
 ghost use Rattle.periods.specs.Edition.{Edition, turnsOf};
 ghost use Rattle.factors.specs.Factorization.{smallest};
 ghost use Rattle.factors.specs.Table.{filled};
@@ -41,13 +42,14 @@ fn read_off(work: &[u32], n: usize) -> Measured
 }
 
 // Fills the table for a word and reads it off.
-fn measure(w: &[u16], edition: u32, work: &mut [u32]) -> Measured
-    requires { ⌜ Workable (now w) (now work) × Edition edition ⌝ }
-    ensures { λ r. ⌜ (r .size ≡ fewestSize (turnsOf edition) (now (w .entry))) × (r .end ≡ firstEnd (turnsOf edition) (now (w .entry))) ⌝ }
-    ensures { λ _. ⌜ now (work .exit) ≡ filled smallest (block? heldPeriod (turnsOf edition) (now (w .entry))) (length (now (w .entry))) (now (work .entry)) ⌝ }
+fn measure(bytes: &[u8], codes: &[u16], wide: bool, edition: u32, work: &mut [u32]) -> Measured
+    requires { ⌜ Workable (wordOf wide (now bytes) (now codes)) (now work) × Edition edition ⌝ }
+    ensures { λ r. ⌜ (r .size ≡ fewestSize (turnsOf edition) (wordOf wide (now (bytes .entry)) (now (codes .entry)))) × (r .end ≡ firstEnd (turnsOf edition) (wordOf wide (now (bytes .entry)) (now (codes .entry)))) ⌝ }
+    ensures { λ _. ⌜ now (work .exit) ≡ filled smallest (block? heldPeriod (turnsOf edition) (wordOf wide (now (bytes .entry)) (now (codes .entry)))) (length (wordOf wide (now (bytes .entry)) (now (codes .entry)))) (now (work .entry)) ⌝ }
 {
-    factorizer::inner::fill(w, periods::turns(edition), factors::FEWEST, work);
-    read_off(work, w.len())
+    let turns = periods::turns(edition);
+    factorizer::inner::fill(bytes, codes, wide, turns, factors::FEWEST, work);
+    read_off(work, periods::either::length(bytes, codes, wide))
 }
 
 // The word with the smaller size; no size is above NONE.
@@ -63,8 +65,7 @@ fn choose(a: Measured, b: Measured) -> Chosen
     Chosen::First(a.end)
 }
 
-// The longer of two lengths.
-pub fn longer(a: usize, b: usize) -> usize
+fn longer(a: usize, b: usize) -> usize
     ensures { λ r. ⌜ r ≡ max a b ⌝ }
 {
     if a < b {
@@ -73,12 +74,24 @@ pub fn longer(a: usize, b: usize) -> usize
     a
 }
 
-// The word to wind first, and the length of its first block; what which first and first block go by.
-pub fn compare(a: &[u16], b: &[u16], edition: u32, work: &mut [u32]) -> Chosen
-    ensures answer { λ r. ⌜ r ≡ compared (now (a .entry)) (now (b .entry)) edition (length (now (work .entry))) ⌝ }
-    ensures worked { λ _. ⌜ now (work .exit) ≡ whichWork (now (a .entry)) (now (b .entry)) edition (now (work .entry)) ⌝ }
+// The word to wind first, and the length of its first block. The words have one width: each is its
+// bytes, or where wide its codes.
+pub(crate) fn compare(
+    a_bytes: &[u8],
+    a_codes: &[u16],
+    b_bytes: &[u8],
+    b_codes: &[u16],
+    wide: bool,
+    edition: u32,
+    work: &mut [u32],
+) -> Chosen
+    ensures { λ r. ⌜ r ≡ compared (wordOf wide (now («a_bytes» .entry)) (now («a_codes» .entry))) (wordOf wide (now («b_bytes» .entry)) (now («b_codes» .entry))) edition (length (now (work .entry))) ⌝ }
+    ensures { λ _. ⌜ now (work .exit) ≡ whichWork (wordOf wide (now («a_bytes» .entry)) (now («a_codes» .entry))) (wordOf wide (now («b_bytes» .entry)) (now («b_codes» .entry))) edition (now (work .entry)) ⌝ }
 {
-    let n = longer(a.len(), b.len());
+    let n = longer(
+        periods::either::length(a_bytes, a_codes, wide),
+        periods::either::length(b_bytes, b_codes, wide),
+    );
     if answers::LIMIT < n {
         return Chosen::Refused(Refusal::TooLong);
     }
@@ -89,14 +102,14 @@ pub fn compare(a: &[u16], b: &[u16], edition: u32, work: &mut [u32]) -> Chosen
     if work.len() < places {
         return Chosen::Refused(Refusal::ShortTable);
     }
-    let first = measure(a, edition, work);
-    let second = measure(b, edition, work);
+    let first = measure(a_bytes, a_codes, wide, edition, work);
+    let second = measure(b_bytes, b_codes, wide, edition, work);
     factors::inner::clear(&mut work[0..places]);
     choose(first, second)
 }
 
 // What which first answers of what is chosen.
-pub fn number_of(chosen: Chosen) -> Counted
+pub(crate) fn number_of(chosen: Chosen) -> Counted
     ensures { λ r. ⌜ countedView r ≡ whichView chosen ⌝ }
 {
     match chosen {

@@ -6,6 +6,7 @@ mod Windows
 mod Visits
 mod Passing
 pub mod Filled
+pub mod Lengths
 pub mod BestClaims
 pub mod JudgeClaims
 pub mod Determined

@@ -56,23 +56,34 @@ fn lesser(a: usize, b: usize) -> usize
 // window. The part call is lent row 2 and writes the units of the window, which are the same in every
 // edition; what it answers is not needed. Gives the unit of the window, or what is known where the
 // boundary is not reached.
-fn visit(w: &[u16], turns: usize, choice: u32, j: usize, known: usize, work: &mut [u32]) -> usize
-    requires { ⌜ Workable (now w) (now work) × Turns turns × (j < length (now w)) ⌝ }
-    requires { ⌜ Windowed (choiceOf choice) (piece? (repetition? heldPeriod turns) (now w)) (now w) (windowOf turns) j j known (now work) ⌝ }
-    ensures { λ r. ⌜ Windowed (choiceOf choice) (piece? (repetition? heldPeriod turns) (now (w .entry))) (now (w .entry)) (windowOf turns) (j + 1) j r (now (work .exit)) ⌝ }
-    ensures { λ _. ⌜ RestKept (length (now (w .entry))) (now (work .entry)) (now (work .exit)) ⌝ }
+fn visit(
+    bytes: &[u8],
+    codes: &[u16],
+    wide: bool,
+    turns: usize,
+    choice: u32,
+    j: usize,
+    known: usize,
+    work: &mut [u32],
+) -> usize
+    requires { ⌜ Workable (wordOf wide (now bytes) (now codes)) (now work) × Turns turns × (j < length (wordOf wide (now bytes) (now codes))) ⌝ }
+    requires { ⌜ Windowed (choiceOf choice) (piece? (repetition? heldPeriod turns) (wordOf wide (now bytes) (now codes))) (wordOf wide (now bytes) (now codes)) (windowOf turns) j j known (now work) ⌝ }
+    ensures { λ r. ⌜ Windowed (choiceOf choice) (piece? (repetition? heldPeriod turns) (wordOf wide (now (bytes .entry)) (now (codes .entry)))) (wordOf wide (now (bytes .entry)) (now (codes .entry))) (windowOf turns) (j + 1) j r (now (work .exit)) ⌝ }
+    ensures { λ _. ⌜ RestKept (length (wordOf wide (now (bytes .entry)) (now (codes .entry)))) (now (work .entry)) (now (work .exit)) ⌝ }
 {
     let size = work[j];
     if size == NONE {
         return known;
     }
-    let n = w.len();
+    let n = periods::either::length(bytes, codes, wide);
     let row = n + 1;
     let two = row + row;
     let three = two + row;
     let len = lesser(turns * periods::UNIT_MEMORY, n - j);
-    periods::part_16(
-        w,
+    periods::either::part(
+        bytes,
+        codes,
+        wide,
         periods::FIRST_EDITION,
         (j + 1) as u32,
         (j + len) as u32,
@@ -84,15 +95,15 @@ fn visit(w: &[u16], turns: usize, choice: u32, j: usize, known: usize, work: &mu
 
 // Passes the blocks that end at boundary m, where a window ends, on to the next boundary if a period
 // of the window goes on there: all of them go on, or none.
-fn lengthen(w: &[u16], m: usize, period: usize, work: &mut [u32])
-    requires { ⌜ Workable (now w) (now work) × (period ≤ m) ⌝ }
-    ensures { λ _. ⌜ now (work .exit) ≡ lengthened (now (w .entry)) m period (now (work .entry)) ⌝ }
+fn lengthen(bytes: &[u8], codes: &[u16], wide: bool, m: usize, period: usize, work: &mut [u32])
+    requires { ⌜ Workable (wordOf wide (now bytes) (now codes)) (now work) × (period ≤ m) ⌝ }
+    ensures { λ _. ⌜ now (work .exit) ≡ lengthened (wordOf wide (now (bytes .entry)) (now (codes .entry))) m period (now (work .entry)) ⌝ }
 {
-    let n = w.len();
+    let n = periods::either::length(bytes, codes, wide);
     if n <= m {
         return;
     }
-    if w[m] != w[m - period] {
+    if !periods::either::same(bytes, codes, wide, m, m - period) {
         return;
     }
     let row = n + 1;
@@ -105,11 +116,11 @@ fn lengthen(w: &[u16], m: usize, period: usize, work: &mut [u32])
 // boundary that it came from. Boundaries in rising order; one that is not reached offers nothing. From
 // each only a window is read, the turns of the longest unit: a longer block goes on with a period of
 // it. Time: the product of the word's length and the window at most.
-pub fn fill(w: &[u16], turns: usize, choice: u32, work: &mut [u32])
-    requires { ⌜ Workable (now w) (now work) × Turns turns ⌝ }
-    ensures { λ _. ⌜ now (work .exit) ≡ filled (choiceOf choice) (piece? (repetition? heldPeriod turns) (now (w .entry))) (length (now (w .entry))) (now (work .entry)) ⌝ }
+pub fn fill(bytes: &[u8], codes: &[u16], wide: bool, turns: usize, choice: u32, work: &mut [u32])
+    requires { ⌜ Workable (wordOf wide (now bytes) (now codes)) (now work) × Turns turns ⌝ }
+    ensures { λ _. ⌜ now (work .exit) ≡ filled (choiceOf choice) (piece? (repetition? heldPeriod turns) (wordOf wide (now (bytes .entry)) (now (codes .entry)))) (length (wordOf wide (now (bytes .entry)) (now (codes .entry)))) (now (work .entry)) ⌝ }
 {
-    let n = w.len();
+    let n = periods::either::length(bytes, codes, wide);
     let row = n + 1;
     let two = row + row;
     factors::inner::start(work, n);
@@ -118,8 +129,8 @@ pub fn fill(w: &[u16], turns: usize, choice: u32, work: &mut [u32])
     let mut unit: usize = 0;
     let mut j: usize = 0;
     while j < n {
-        unit = visit(w, turns, choice, j, unit, work);
-        lengthen(w, j + window, unit, work);
+        unit = visit(bytes, codes, wide, turns, choice, j, unit, work);
+        lengthen(bytes, codes, wide, j + window, unit, work);
         j += 1;
     }
     let four = two + two;
@@ -162,30 +173,46 @@ pub fn finish(n: usize, ends: &mut [u32], work: &mut [u32]) -> Counted
 }
 
 // The best factorization into repetitions, where the table has its four rows.
-fn settle(w: &[u16], turns: usize, choice: u32, ends: &mut [u32], work: &mut [u32]) -> Counted
-    requires { ⌜ Workable (now w) (now work) × Turns turns ⌝ }
-    ensures { λ r. ⌜ countedView r ≡ sizeOutcome (wholeCell (repetition? heldPeriod turns) (now (w .entry)) choice) (length (now (ends .entry))) ⌝ }
-    ensures { λ _. ⌜ now (ends .exit) ≡ settledEnds (repetition? heldPeriod turns) (now (w .entry)) choice (now (ends .entry)) ⌝ }
-    ensures { λ _. ⌜ now (work .exit) ≡ settledWork (repetition? heldPeriod turns) (now (w .entry)) choice (now (work .entry)) ⌝ }
+fn settle(
+    bytes: &[u8],
+    codes: &[u16],
+    wide: bool,
+    turns: usize,
+    choice: u32,
+    ends: &mut [u32],
+    work: &mut [u32],
+) -> Counted
+    requires { ⌜ Workable (wordOf wide (now bytes) (now codes)) (now work) × Turns turns ⌝ }
+    ensures { λ r. ⌜ countedView r ≡ sizeOutcome (wholeCell (repetition? heldPeriod turns) (wordOf wide (now (bytes .entry)) (now (codes .entry))) choice) (length (now (ends .entry))) ⌝ }
+    ensures { λ _. ⌜ now (ends .exit) ≡ settledEnds (repetition? heldPeriod turns) (wordOf wide (now (bytes .entry)) (now (codes .entry))) choice (now (ends .entry)) ⌝ }
+    ensures { λ _. ⌜ now (work .exit) ≡ settledWork (repetition? heldPeriod turns) (wordOf wide (now (bytes .entry)) (now (codes .entry))) choice (now (work .entry)) ⌝ }
 {
-    fill(w, turns, choice, work);
-    finish(w.len(), ends, work)
+    fill(bytes, codes, wide, turns, choice, work);
+    finish(periods::either::length(bytes, codes, wide), ends, work)
 }
 
 // The best factorization of a word within the limit into repetitions. Refusals: 8, 9, 2, 7.
-pub fn best(w: &[u16], turns: usize, choice: u32, ends: &mut [u32], work: &mut [u32]) -> Counted
-    requires { ⌜ (length (now w) ≤ limit) × Turns turns ⌝ }
-    ensures { λ r. ⌜ countedView r ≡ chosenOutcome (repetition? heldPeriod turns) (now (w .entry)) choice (now (ends .entry)) (now (work .entry)) ⌝ }
-    ensures { λ _. ⌜ now (ends .exit) ≡ chosenEnds (repetition? heldPeriod turns) (now (w .entry)) choice (now (ends .entry)) (now (work .entry)) ⌝ }
-    ensures { λ _. ⌜ now (work .exit) ≡ chosenWork (repetition? heldPeriod turns) (now (w .entry)) choice (now (work .entry)) ⌝ }
+pub fn best(
+    bytes: &[u8],
+    codes: &[u16],
+    wide: bool,
+    turns: usize,
+    choice: u32,
+    ends: &mut [u32],
+    work: &mut [u32],
+) -> Counted
+    requires { ⌜ (length (wordOf wide (now bytes) (now codes)) ≤ limit) × Turns turns ⌝ }
+    ensures { λ r. ⌜ countedView r ≡ chosenOutcome (repetition? heldPeriod turns) (wordOf wide (now (bytes .entry)) (now (codes .entry))) choice (now (ends .entry)) (now (work .entry)) ⌝ }
+    ensures { λ _. ⌜ now (ends .exit) ≡ chosenEnds (repetition? heldPeriod turns) (wordOf wide (now (bytes .entry)) (now (codes .entry))) choice (now (ends .entry)) (now (work .entry)) ⌝ }
+    ensures { λ _. ⌜ now (work .exit) ≡ chosenWork (repetition? heldPeriod turns) (wordOf wide (now (bytes .entry)) (now (codes .entry))) choice (now (work .entry)) ⌝ }
 {
     if factors::bad_choice(choice) {
         return Counted::Refused(Refusal::BadChoice);
     }
-    if work.len() < factors::ROWS * (w.len() + 1) {
+    if work.len() < factors::ROWS * (periods::either::length(bytes, codes, wide) + 1) {
         return Counted::Refused(Refusal::ShortTable);
     }
-    settle(w, turns, choice, ends, work)
+    settle(bytes, codes, wide, turns, choice, ends, work)
 }
 
 // Whether the part of a word of either width between two boundaries is a block.

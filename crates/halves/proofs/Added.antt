@@ -9,7 +9,9 @@ use lib.Seq.{sets, getD-set-same}
 use Rattle.laws.proofs.Tests.{T-true}
 use Rattle.periods.specs.Period.{part, SmallestPeriod}
 use Rattle.periods.proofs.InPlace.{symbol, part-smallest-in}
-use Rattle.runs.specs.Table.{rootOf, stride, numbersOf}
+use Rattle.runs.specs.declared.Listing.{Listing}
+use Rattle.runs.specs.Table.{rootOf}
+use Rattle.runs.specs.Listing.{entryOf, strideOf}
 use Rattle.runs.proofs.InPlace.{RunIn}
 use Rattle.runs.proofs.RootClaims.{root-computed}
 use Rattle.runs.proofs.Listed.{run-tested}
@@ -75,14 +77,14 @@ module _ (w s table : List ℕ) (a b p : ℕ) (F : Scratch w s) (N : New w a b p
     suffixes = row-set-behind (length w) (set s end b) (length w + 1) next (getD s next 0 + 1) (omega arith) ∙ row-set-behind (length w) s (length w + 1) end b (omega arith);
   }
 
-  pub added-keeps : (t : List ℕ) → t ≡ sets table (stride * getD s next 0) (numbersOf (newRecord w a b p)) → Advances w s table left t
-  added-keeps t e =
+  pub added-keeps : (f : Listing) (t : List ℕ) → t ≡ sets table (strideOf f * getD s next 0) (entryOf f (newRecord w a b p)) → Advances f w s table left t
+  added-keeps f t e =
       rw (
         ends-are,
         next-are,
-        e ∙ ap (λ (x : ℕ). sets table (stride * x) (numbersOf (newRecord w a b p))) (sym (row-read (length w) s (3 * (length w + 1)) a (omega (arith, inside .1)))),
+        e ∙ ap (λ (x : ℕ). sets table (strideOf f * x) (entryOf f (newRecord w a b p))) (sym (row-read (length w) s (3 * (length w + 1)) a (omega (arith, inside .1)))),
       ) (
-      keeps-new w (endsRow w s) (nextRow w s) table a b p (N .within) (inside .0) (omega (arith, row-long (length w) s (2 * (length w + 1)) (omega arith)))
+      keeps-new f w (endsRow w s) (nextRow w s) table a b p (N .within) (inside .0) (omega (arith, row-long (length w) s (2 * (length w + 1)) (omega arith)))
       (omega (arith, row-long (length w) s (3 * (length w + 1)) (omega arith))) N
       )
 

@@ -7,7 +7,9 @@ use native.Mathlib.Omega.{arith}
 use lib.ListN.{length, take, drop, replicate, length-replicate}
 use lib.Seq.{sets}
 use Rattle.factors.proofs.Lent.{lent}
-use Rattle.runs.specs.Table.{runsOf, stride, flat}
+use Rattle.runs.specs.declared.Listing.{Listing}
+use Rattle.runs.specs.Table.{runsOf}
+use Rattle.runs.specs.Listing.{strideOf, flatBy}
 use Rattle.runs.proofs.Few.{table-at-most}
 use Rattle.halves.specs.Scratch.{Scratch, rowFrom, endsRow, nextRow}
 use Rattle.halves.specs.Found.{Solved}
@@ -59,8 +61,8 @@ module _ (w s x : List ℕ) (F : Scratch w s) (zx : x ≡ replicate (length (tak
     pub place-roomy : Roomy w none
     place-roomy = ((F .0, omega (arith, none-long, F .1)), room-starts w (endsRow w none) (nextRow w none) (F .0) starts-stay)
 
-    pub place-is : (t s′ t′ : List ℕ) → stride * length (runsOf w) ≤ length t → Advances w none t s′ t′ → Solved w 0 (length w) (endsRow w s′) → t′ ≡ sets t 0 (flat (runsOf w))
-    place-is t s′ t′ room K D = table-is w (endsRow w none) (nextRow w none) t (endsRow w s′) (nextRow w s′) t′ none-found starts-stay room K D
+    pub place-is : (f : Listing) (t s′ t′ : List ℕ) → strideOf f * length (runsOf w) ≤ length t → Advances f w none t s′ t′ → Solved w 0 (length w) (endsRow w s′) → t′ ≡ sets t 0 (flatBy f (runsOf w))
+    place-is f t s′ t′ room K D = table-is f w (endsRow w none) (nextRow w none) t (endsRow w s′) (nextRow w s′) t′ none-found starts-stay room K D
 
   -- ---- the turn that counts
   module _ (y : List ℕ) (zy : y ≡ replicate (length (take (4 * (length w + 1) - 3 * (length w + 1)) (drop (3 * (length w + 1)) none))) 0) where
@@ -84,14 +86,14 @@ module _ (w s x : List ℕ) (F : Scratch w s) (zx : x ≡ replicate (length (tak
     pub count-roomy : Roomy w clean
     count-roomy = ((F .0, omega (arith, clean-long, F .1)), room-zeros w (endsRow w clean) (nextRow w clean) (F .0) clean-next)
 
-    module _ (t s′ t′ : List ℕ) (K : Advances w clean t s′ t′) (D : Solved w 0 (length w) (endsRow w s′)) (kept : length s′ ≡ length clean) where
+    module _ (f : Listing) (t s′ t′ : List ℕ) (K : Advances f w clean t s′ t′) (D : Solved w 0 (length w) (endsRow w s′)) (kept : length s′ ≡ length clean) where
       abbrev counts : List ℕ
       counts = take (4 * (length w + 1) - 3 * (length w + 1)) (drop (3 * (length w + 1)) s′)
 
       counted : Counts w counts
       counted =
           subst (Counts w) (sym (row-part (length w) (3 * (length w + 1)) (4 * (length w + 1)) s′ (omega arith)))
-          (counts-are w (endsRow w clean) (nextRow w clean) t (endsRow w s′) (nextRow w s′) t′ clean-ends clean-next K D)
+          (counts-are f w (endsRow w clean) (nextRow w clean) t (endsRow w s′) (nextRow w s′) t′ clean-ends clean-next K D)
 
       counts-long : length counts ≡ length w + 1
       counts-long =

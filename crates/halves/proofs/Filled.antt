@@ -9,6 +9,7 @@ use lib.Seq.{length-take-le}
 use Rattle.periods.specs.Period.{part}
 use Rattle.prefixes.specs.Match.{view, Matched}
 use Rattle.factors.proofs.Lent.{lent}
+use Rattle.runs.specs.declared.Listing.{Listing}
 use Rattle.halves.specs.Scratch.{rowFrom, prefixRow, suffixRow, endsRow, nextRow}
 use Rattle.halves.specs.Found.{Tables, Solved}
 use Rattle.halves.specs.Kept.{Room, Advances, SamePrefixes, SameRecords}
@@ -70,5 +71,5 @@ pub solved-kept : (w s s′ : List ℕ) (lo hi : ℕ) → SameRecords w s s′ �
 solved-kept w s s′ lo hi S R = rw (S .ends) R
 
 -- a step from the scratch with other tables
-pub advances-from : (w s s′ s″ t t′ : List ℕ) → SameRecords w s s′ → Advances w s′ t s″ t′ → Advances w s t s″ t′
-advances-from w s s′ s″ t t′ S K = rw (sym (S .ends), sym (S .next)) K
+pub advances-from : (f : Listing) (w s s′ s″ t t′ : List ℕ) → SameRecords w s s′ → Advances f w s′ t s″ t′ → Advances f w s t s″ t′
+advances-from f w s s′ s″ t t′ S K = rw (sym (S .ends), sym (S .next)) K

@@ -5,6 +5,7 @@ use mathlib.Core.List.{List}
 use Prim.Native.Nat.{ℕ, _+_, _-_, _≤_}
 use native.Mathlib.Omega.{arith}
 use lib.ListN.{length, getD}
+use Rattle.runs.specs.declared.Listing.{Listing}
 use Rattle.halves.specs.Scratch.{prefixRow, suffixRow, endsRow, nextRow}
 use Rattle.halves.specs.Found.{Tables, Met}
 use Rattle.halves.specs.Kept.{Advances, SamePrefixes}
@@ -30,5 +31,5 @@ module _ (w s : List ℕ) (lo m hi : ℕ) (l : lo ≤ m) (k : m ≤ hi) (h : hi 
       rw (suffix-read (hi - m + p) (omega arith), prefix-read (m - lo - p) (omega arith)) at (below-at w lo m hi (prefixRow w s) (suffixRow w s) l k h X p pos z)
 
 -- nothing is tried where there is no room for the period
-pub untried : (w s table : List ℕ) (lo hi d p : ℕ) → Met w lo hi d p (endsRow w s) → Advances w s table s table × (SamePrefixes w s s × Met w lo hi d p (endsRow w s))
-untried w s table lo hi d p M = (keeps-none w (endsRow w s) (nextRow w s) table, (record { prefixes = λ i. prefixRow w s; suffixes = λ i. suffixRow w s }, M))
+pub untried : (f : Listing) (w s table : List ℕ) (lo hi d p : ℕ) → Met w lo hi d p (endsRow w s) → Advances f w s table s table × (SamePrefixes w s s × Met w lo hi d p (endsRow w s))
+untried f w s table lo hi d p M = (keeps-none f w (endsRow w s) (nextRow w s) table, (record { prefixes = λ i. prefixRow w s; suffixes = λ i. suffixRow w s }, M))

@@ -3,9 +3,10 @@
 use mathlib.Core.Path.{_≡_, refl, sym, ap, _∙_}
 use mathlib.Core.Logic.{_⊎_, inl, inr}
 use mathlib.Core.Bool.{Bool, true, false}
-use mathlib.Core.List.{List, [], _∷_, _++_}
+use mathlib.Core.List.{List, [], _∷_, _++_, append-nil}
 use Prim.Native.Nat.{ℕ, zero, suc, _+_, _-_, _*_, _≤_, _<_}
 use native.Mathlib.Omega.{arith}
+use native.Mathlib.Nat.{mul-le-mul-left}
 use native.Mathlib.Decide.{decLt, ℕ-discrete}
 use lib.Dec.{T}
 use lib.ListN.{length, getD, set, drop, length-append, List·getD-append}
@@ -13,8 +14,11 @@ use lib.Seq.{sets, length-sets, getD-set-same, getD-set-other, getD-append-add, 
 use Rattle.laws.proofs.Tests.{T-true}
 use Rattle.laws.proofs.Stores.{sets-front, sets-in, sets-out}
 use Rattle.runs.specs.declared.Record.{Record}
-use Rattle.runs.specs.Table.{run?, rootOf, runBetween, rowsAt, rowsBefore, runsOf, stride, numbersOf, flat}
-use Rattle.runs.proofs.Rows.{rows-skip, rows-add, count-more, flat-append, length-flat}
+use Rattle.runs.specs.declared.Listing.{Listing}
+use Rattle.runs.specs.Table.{run?, rootOf, runBetween, rowsAt, rowsBefore, runsOf}
+use Rattle.runs.specs.Listing.{entryOf, strideOf, flatBy}
+use Rattle.runs.proofs.Rows.{rows-skip, rows-add, count-more}
+use Rattle.runs.proofs.Listings.{length-entry, length-flat-by, flat-by-append}
 use Rattle.halves.specs.Found.{New, Solved}
 use Rattle.halves.specs.Kept.{newRecord, Starts, Placed, Kept, Room, Keeps}
 
@@ -74,8 +78,8 @@ before-fits w a (suc c) e l h = go (λ x. before-fits w a c e x h) (ℕ-discrete
 
 -- ---- one more record
 
-module _ (w base t ends next table : List ℕ) (a b p : ℕ) (inside : b ≤ length w) (l : a < b) (le : length w ≤ length ends) (ln : length w ≤ length next) (N : New w a b p ends)
-    (K : Kept w base t ends next table)
+module _ (f : Listing) (w base t ends next table : List ℕ) (a b p : ℕ) (inside : b ≤ length w) (l : a < b) (le : length w ≤ length ends) (ln : length w ≤ length next) (N : New w a b p ends)
+    (K : Kept f w base t ends next table)
   where
     abbrev rows : List Record
     rows = rowsAt w a (getD ends a 0 - a)
@@ -95,8 +99,8 @@ module _ (w base t ends next table : List ℕ) (a b p : ℕ) (inside : b ≤ len
         rw z (rw (getD-set-same next a (getD next a 0 + 1) 0 (omega arith), getD-set-same ends a b 0 (omega arith)) (omega (arith, K .counted a (omega arith), one-more)))
     counted x h (no z) = rw (getD-set-other next a x (getD next a 0 + 1) 0 z, getD-set-other ends a x b 0 z) (K .counted x h)
 
-    module _ (S : Starts w base) (room : stride * length (runsOf w) ≤ length t) where
-      P : Placed w base t ends table
+    module _ (S : Starts w base) (room : strideOf f * length (runsOf w) ≤ length t) where
+      P : Placed f w base t ends table
       P = K .placed S room
 
       at-next : getD next a 0 ≡ length (rowsBefore w a) + length rows
@@ -111,60 +115,70 @@ module _ (w base t ends next table : List ℕ) (a b p : ℕ) (inside : b ≤ len
       in-all = ahead (length w) (omega arith)
 
       abbrev new : List ℕ
-      new = sets table (stride * getD next a 0) (numbersOf (newRecord w a b p))
+      new = sets table (strideOf f * getD next a 0) (entryOf f (newRecord w a b p))
 
       -- another boundary
-      other : (x j : ℕ) → x < length w → (x ≡ a → ⊥) → j < stride * length (rowsAt w x (getD ends x 0 - x)) → getD new (stride * getD base x 0 + j) 0 ≡ getD (flat (rowsAt w x (getD ends x 0 - x))) j 0
-      other x j h z k = sets-out table (stride * getD next a 0) (numbersOf (newRecord w a b p)) (stride * getD base x 0 + j) (go (decLt x a)) ∙ P .at x j h k
+      other : (x j : ℕ) → x < length w → (x ≡ a → ⊥) → j < strideOf f * length (rowsAt w x (getD ends x 0 - x)) → getD new (strideOf f * getD base x 0 + j) 0 ≡ getD (flatBy f (rowsAt w x (getD ends x 0 - x))) j 0
+      other x j h z k = sets-out table (strideOf f * getD next a 0) (entryOf f (newRecord w a b p)) (strideOf f * getD base x 0 + j) (go (decLt x a)) ∙ P .at x j h k
         where
-          go : Dec (x < a) → (stride * getD base x 0 + j < stride * getD next a 0) ⊎ (stride * getD next a 0 + stride ≤ stride * getD base x 0 + j)
-          go (yes c) = inl (omega (arith, before-fits w x a (getD ends x 0) c (K .below x h), at-next, S .at x h))
-          go (no c) = inr (omega (arith, ahead x (omega arith), S .at x h))
+          go : Dec (x < a) → (strideOf f * getD base x 0 + j < strideOf f * getD next a 0) ⊎ (strideOf f * getD next a 0 + length (entryOf f (newRecord w a b p)) ≤ strideOf f * getD base x 0 + j)
+          go (yes c) =
+              let before : getD base x 0 + length (rowsAt w x (getD ends x 0 - x)) ≤ getD next a 0 = omega (arith, before-fits w x a (getD ends x 0) c (K .below x h), at-next, S .at x h) in
+              inl (omega (arith, mul-le-mul-left (strideOf f) before))
+          go (no c) =
+              let after : getD next a 0 + 1 ≤ getD base x 0 = omega (arith, ahead x (omega arith), S .at x h) in
+              inr (omega (arith, mul-le-mul-left (strideOf f) after, length-entry f (newRecord w a b p)))
+
+      from-base : strideOf f * getD next a 0 ≡ strideOf f * getD base a 0 + strideOf f * length rows
+      from-base =
+          let e : getD next a 0 ≡ getD base a 0 + length rows = omega (arith, at-next, S .at a (omega arith)) in
+          omega (arith, ap (λ (x : ℕ). strideOf f * x) e)
 
       -- the same
-      same : (j : ℕ) → j < stride * (length rows + 1) → Dec (j < stride * length rows) → getD new (stride * getD base a 0 + j) 0 ≡ getD (flat rows ++ (numbersOf (newRecord w a b p))) j 0
+      same : (j : ℕ) → j < strideOf f * (length rows + 1) → Dec (j < strideOf f * length rows) → getD new (strideOf f * getD base a 0 + j) 0 ≡ getD (flatBy f rows ++ (entryOf f (newRecord w a b p))) j 0
       same j h (yes k) =
-          sets-out table (stride * getD next a 0) (numbersOf (newRecord w a b p)) (stride * getD base a 0 + j) (inl (omega (arith, at-next, S .at a (omega arith)))) ∙ P .at a j (omega arith) k
-          ∙ sym (List·getD-append (flat rows) (numbersOf (newRecord w a b p)) 0 j (omega (arith, length-flat rows)))
+          sets-out table (strideOf f * getD next a 0) (entryOf f (newRecord w a b p)) (strideOf f * getD base a 0 + j) (inl (omega (arith, from-base))) ∙ P .at a j (omega arith) k
+          ∙ sym (List·getD-append (flatBy f rows) (entryOf f (newRecord w a b p)) 0 j (omega (arith, length-flat-by f rows)))
       same j h (no k) =
-          ap (λ (i : ℕ). getD new i 0) (omega (arith, at-next, S .at a (omega arith)))
-          ∙ sets-in table (stride * getD next a 0) (numbersOf (newRecord w a b p)) (j - stride * length rows) (omega arith) (omega (arith, in-all, P .long))
-          ∙ sym (getD-append-add (flat rows) (numbersOf (newRecord w a b p)) (j - stride * length rows) 0)
-          ∙ ap (λ (i : ℕ). getD (flat rows ++ (numbersOf (newRecord w a b p))) i 0) (omega (arith, length-flat rows))
+          ap (λ (i : ℕ). getD new i 0) (omega (arith, from-base))
+          ∙ sets-in table (strideOf f * getD next a 0) (entryOf f (newRecord w a b p)) (j - strideOf f * length rows) (omega (arith, length-entry f (newRecord w a b p)))
+          (omega (arith, mul-le-mul-left (strideOf f) in-all, P .long, length-entry f (newRecord w a b p)))
+          ∙ sym (getD-append-add (flatBy f rows) (entryOf f (newRecord w a b p)) (j - strideOf f * length rows) 0)
+          ∙ ap (λ (i : ℕ). getD (flatBy f rows ++ (entryOf f (newRecord w a b p))) i 0) (omega (arith, length-flat-by f rows))
 
-      at : (x j : ℕ) → x < length w → Dec (x ≡ a) → j < stride * length (rowsAt w x (getD (set ends a b) x 0 - x))
-          → getD new (stride * getD base x 0 + j) 0 ≡ getD (flat (rowsAt w x (getD (set ends a b) x 0 - x))) j 0
+      at : (x j : ℕ) → x < length w → Dec (x ≡ a) → j < strideOf f * length (rowsAt w x (getD (set ends a b) x 0 - x))
+          → getD new (strideOf f * getD base x 0 + j) 0 ≡ getD (flatBy f (rowsAt w x (getD (set ends a b) x 0 - x))) j 0
       at x j h (no z) = rw (getD-set-other ends a x b 0 z) (other x j h z)
-      at x j h (yes z) = rw z (rw (getD-set-same ends a b 0 (omega arith), rows-new w a b p ends N l, flat-append rows (row ∷ []), length-append rows (row ∷ [])) (λ k. same j k (decLt j (stride * length rows))))
+      at x j h (yes z) = rw z (rw (getD-set-same ends a b 0 (omega arith), rows-new w a b p ends N l, flat-by-append f rows (row ∷ []), append-nil (entryOf f row), length-append rows (row ∷ [])) (λ k. same j k (decLt j (strideOf f * length rows))))
 
-      placed : Placed w base t (set ends a b) new
+      placed : Placed f w base t (set ends a b) new
       placed = record {
-        long = length-sets table (stride * getD next a 0) (numbersOf (newRecord w a b p)) ∙ P .long;
+        long = length-sets table (strideOf f * getD next a 0) (entryOf f (newRecord w a b p)) ∙ P .long;
         at = λ x j h k. at x j h (ℕ-discrete x a) k;
-        rest = λ k h. sets-out table (stride * getD next a 0) (numbersOf (newRecord w a b p)) k (inr (omega (arith, in-all))) ∙ P .rest k h;
+        rest = λ k h. sets-out table (strideOf f * getD next a 0) (entryOf f (newRecord w a b p)) k (inr (omega (arith, mul-le-mul-left (strideOf f) in-all, length-entry f (newRecord w a b p)))) ∙ P .rest k h;
       }
 
-    pub kept-step : Kept w base t (set ends a b) (set next a (getD next a 0 + 1)) (sets table (stride * getD next a 0) (numbersOf (newRecord w a b p)))
+    pub kept-step : Kept f w base t (set ends a b) (set next a (getD next a 0 + 1)) (sets table (strideOf f * getD next a 0) (entryOf f (newRecord w a b p)))
     kept-step = record { below = λ x h. below x h (ℕ-discrete x a); counted = λ x h. counted x h (ℕ-discrete x a); placed = λ S room. placed S room }
 
 -- ---- steps
 
-pub keeps-none : (w ends next table : List ℕ) → Keeps w ends next table ends next table
-keeps-none w ends next table = record { grows = λ a. omega arith; room = λ R. R; kept = λ base t K. K }
+pub keeps-none : (f : Listing) (w ends next table : List ℕ) → Keeps f w ends next table ends next table
+keeps-none f w ends next table = record { grows = λ a. omega arith; room = λ R. R; kept = λ base t K. K }
 
-pub keeps-then : (w e n t e′ n′ t′ e″ n″ t″ : List ℕ) → Keeps w e n t e′ n′ t′ → Keeps w e′ n′ t′ e″ n″ t″ → Keeps w e n t e″ n″ t″
-keeps-then w e n t e′ n′ t′ e″ n″ t″ X Y = record {
+pub keeps-then : (f : Listing) (w e n t e′ n′ t′ e″ n″ t″ : List ℕ) → Keeps f w e n t e′ n′ t′ → Keeps f w e′ n′ t′ e″ n″ t″ → Keeps f w e n t e″ n″ t″
+keeps-then f w e n t e′ n′ t′ e″ n″ t″ X Y = record {
   grows = λ a. omega (arith, X .grows a, Y .grows a);
   room = λ R. Y .room (X .room R);
   kept = λ base r K. Y .kept base r (X .kept base r K);
 }
 
-pub keeps-new : (w ends next table : List ℕ) (a b p : ℕ) → b ≤ length w → a < b → length w ≤ length ends → length w ≤ length next → New w a b p ends
-    → Keeps w ends next table (set ends a b) (set next a (getD next a 0 + 1)) (sets table (stride * getD next a 0) (numbersOf (newRecord w a b p)))
-keeps-new w ends next table a b p inside l le ln N = record {
+pub keeps-new : (f : Listing) (w ends next table : List ℕ) (a b p : ℕ) → b ≤ length w → a < b → length w ≤ length ends → length w ≤ length next → New w a b p ends
+    → Keeps f w ends next table (set ends a b) (set next a (getD next a 0 + 1)) (sets table (strideOf f * getD next a 0) (entryOf f (newRecord w a b p)))
+keeps-new f w ends next table a b p inside l le ln N = record {
   grows = λ x. grows x (ℕ-discrete x a);
   room = λ R. record { small = λ x h. room R x h (ℕ-discrete x a) };
-  kept = λ base t K. kept-step w base t ends next table a b p inside l le ln N K;
+  kept = λ base t K. kept-step f w base t ends next table a b p inside l le ln N K;
 }
   where
     grows : (x : ℕ) → Dec (x ≡ a) → getD ends x 0 ≤ getD (set ends a b) x 0
@@ -183,17 +197,17 @@ unfolding rowsAt
 rows-nothing w a d e = rw e refl
 
 -- nothing was found
-pub kept-start : (w base t ends : List ℕ) → ((a : ℕ) → a < length w → getD ends a 0 ≡ 0) → Kept w base t ends base t
-kept-start w base t ends z = record {
+pub kept-start : (f : Listing) (w base t ends : List ℕ) → ((a : ℕ) → a < length w → getD ends a 0 ≡ 0) → Kept f w base t ends base t
+kept-start f w base t ends z = record {
   below = λ a h. omega (arith, z a h);
   counted = λ a h. omega (arith, ap length (none a h));
-  placed = λ S room. record { long = refl; at = λ a j h k. absurd (omega (arith, ap length (none a h))); rest = λ k h. refl };
+  placed = λ S room. record { long = refl; at = λ a j h k. absurd (omega (arith, ap (λ (x : List Record). strideOf f * length x) (none a h))); rest = λ k h. refl };
 }
   where
     none : (a : ℕ) → a < length w → rowsAt w a (getD ends a 0 - a) ≡ []
     none a h = rows-nothing w a (getD ends a 0 - a) (omega (arith, z a h))
 
-module _ (w base t ends next table : List ℕ) (K : Kept w base t ends next table) (D : Solved w 0 (length w) ends) where
+module _ (f : Listing) (w base t ends next table : List ℕ) (K : Kept f w base t ends next table) (D : Solved w 0 (length w) ends) where
   all-rows : (a : ℕ) → a < length w → rowsAt w a (getD ends a 0 - a) ≡ rowsAt w a (length w - a)
   all-rows a h =
       sym (rows-gap w a (getD ends a 0) (length w - getD ends a 0) (λ x y z r. omega (arith, D .found a x r (omega arith) (omega (arith, K .below a h)))))
@@ -203,14 +217,14 @@ module _ (w base t ends next table : List ℕ) (K : Kept w base t ends next tabl
   pub all-counted : (a : ℕ) → a < length w → getD next a 0 ≡ getD base a 0 + length (rowsAt w a (length w - a))
   all-counted a h = omega (arith, K .counted a h, ap length (all-rows a h))
 
-  module _ (S : Starts w base) (room : stride * length (runsOf w) ≤ length t) where
-    All : Placed w base t ends table
+  module _ (S : Starts w base) (room : strideOf f * length (runsOf w) ≤ length t) where
+    All : Placed f w base t ends table
     All = K .placed S room
 
-    front : (c : ℕ) → c ≤ length w → (k : ℕ) → k < stride * length (rowsBefore w c) → getD table k 0 ≡ getD (flat (rowsBefore w c)) k 0
+    front : (c : ℕ) → c ≤ length w → (k : ℕ) → k < strideOf f * length (rowsBefore w c) → getD table k 0 ≡ getD (flatBy f (rowsBefore w c)) k 0
     unfolding rowsBefore
     front zero h k l = absurd (omega arith)
-    front (suc c) h k l = go (front c (omega arith) k) (decLt k (stride * length (rowsBefore w c)))
+    front (suc c) h k l = go (front c (omega arith) k) (decLt k (strideOf f * length (rowsBefore w c)))
       where
         old : List Record
         old = rowsBefore w c
@@ -218,33 +232,33 @@ module _ (w base t ends next table : List ℕ) (K : Kept w base t ends next tabl
         new : List Record
         new = rowsAt w c (length w - c)
 
-        go : (k < stride * length old → getD table k 0 ≡ getD (flat old) k 0) → Dec (k < stride * length old) → getD table k 0 ≡ getD (flat (old ++ new)) k 0
-        go ih (yes z) = rw (flat-append old new) (ih z ∙ sym (List·getD-append (flat old) (flat new) 0 k (omega (arith, length-flat old))))
+        go : (k < strideOf f * length old → getD table k 0 ≡ getD (flatBy f old) k 0) → Dec (k < strideOf f * length old) → getD table k 0 ≡ getD (flatBy f (old ++ new)) k 0
+        go ih (yes z) = rw (flat-by-append f old new) (ih z ∙ sym (List·getD-append (flatBy f old) (flatBy f new) 0 k (omega (arith, length-flat-by f old))))
         go ih (no z) =
-            rw (flat-append old new) (
-            ap (λ (i : ℕ). getD table i 0) (omega (arith, S .at c (omega arith)))
-            ∙ All .at c (k - stride * length old) (omega arith) (omega (arith, ap length (all-rows c (omega arith)), length-append old new))
-            ∙ ap (λ (x : List Record). getD (flat x) (k - stride * length old) 0) (all-rows c (omega arith))
-            ∙ sym (getD-append-add (flat old) (flat new) (k - stride * length old) 0)
-            ∙ ap (λ (i : ℕ). getD (flat old ++ flat new) i 0) (omega (arith, length-flat old))
+            rw (flat-by-append f old new) (
+            ap (λ (i : ℕ). getD table i 0) (omega (arith, ap (λ (x : ℕ). strideOf f * x) (S .at c (omega arith))))
+            ∙ All .at c (k - strideOf f * length old) (omega arith) (omega (arith, ap (λ (x : List Record). strideOf f * length x) (all-rows c (omega arith)), ap (λ (x : ℕ). strideOf f * x) (length-append old new)))
+            ∙ ap (λ (x : List Record). getD (flatBy f x) (k - strideOf f * length old) 0) (all-rows c (omega arith))
+            ∙ sym (getD-append-add (flatBy f old) (flatBy f new) (k - strideOf f * length old) 0)
+            ∙ ap (λ (i : ℕ). getD (flatBy f old ++ flatBy f new) i 0) (omega (arith, length-flat-by f old))
             )
 
     -- CLAIM: the table is that of the definition
-    pub all-placed : table ≡ sets t 0 (flat (runsOf w))
+    pub all-placed : table ≡ sets t 0 (flatBy f (runsOf w))
     unfolding runsOf
-    all-placed = ext-getD 0 table (sets t 0 (flat (rowsBefore w (length w)))) (All .long ∙ sym (length-sets t 0 (flat (rowsBefore w (length w))))) (λ k h. go k h (decLt k (stride * length (rowsBefore w (length w)))))
+    all-placed = ext-getD 0 table (sets t 0 (flatBy f (rowsBefore w (length w)))) (All .long ∙ sym (length-sets t 0 (flatBy f (rowsBefore w (length w))))) (λ k h. go k h (decLt k (strideOf f * length (rowsBefore w (length w)))))
       where
         vs : List ℕ
-        vs = flat (rowsBefore w (length w))
+        vs = flatBy f (rowsBefore w (length w))
 
         split : sets t 0 vs ≡ vs ++ drop (length vs) t
-        split = sets-front t vs (omega (arith, length-flat (rowsBefore w (length w))))
+        split = sets-front t vs (omega (arith, length-flat-by f (rowsBefore w (length w))))
 
-        go : (k : ℕ) → k < length table → Dec (k < stride * length (rowsBefore w (length w))) → getD table k 0 ≡ getD (sets t 0 vs) k 0
-        go k h (yes z) = rw split (front (length w) (omega arith) k z ∙ sym (List·getD-append vs (drop (length vs) t) 0 k (omega (arith, length-flat (rowsBefore w (length w))))))
+        go : (k : ℕ) → k < length table → Dec (k < strideOf f * length (rowsBefore w (length w))) → getD table k 0 ≡ getD (sets t 0 vs) k 0
+        go k h (yes z) = rw split (front (length w) (omega arith) k z ∙ sym (List·getD-append vs (drop (length vs) t) 0 k (omega (arith, length-flat-by f (rowsBefore w (length w))))))
         go k h (no z) =
             rw split (
-            All .rest k (omega arith) ∙ ap (λ (i : ℕ). getD t i 0) (omega (arith, length-flat (rowsBefore w (length w))))
+            All .rest k (omega arith) ∙ ap (λ (i : ℕ). getD t i 0) (omega (arith, length-flat-by f (rowsBefore w (length w))))
             ∙ sym (getD-drop (length vs) t (k - length vs) 0) ∙ sym (getD-append-add vs (drop (length vs) t) (k - length vs) 0)
-            ∙ ap (λ (i : ℕ). getD (vs ++ drop (length vs) t) i 0) (omega (arith, length-flat (rowsBefore w (length w))))
+            ∙ ap (λ (i : ℕ). getD (vs ++ drop (length vs) t) i 0) (omega (arith, length-flat-by f (rowsBefore w (length w))))
             )

@@ -8,7 +8,9 @@ use native.Mathlib.Decide.{ℕ-discrete}
 use lib.ListN.{length, getD, set, replicate}
 use lib.Seq.{sets, getD-set-same, getD-set-other}
 use Rattle.answers.specs.Outcome.{limit}
-use Rattle.runs.specs.Table.{rowsAt, rowsBefore, runsOf, stride, flat}
+use Rattle.runs.specs.declared.Listing.{Listing}
+use Rattle.runs.specs.Table.{rowsAt, rowsBefore, runsOf}
+use Rattle.runs.specs.Listing.{strideOf, flatBy}
 use Rattle.runs.proofs.Rows.{before-none, count-more}
 use Rattle.runs.proofs.Few.{table-at-most}
 use Rattle.halves.specs.Found.{Solved}
@@ -81,17 +83,17 @@ pub starts-are : (w next r : List ℕ) → Counts w next → Summed next r (leng
 starts-are w next r C S = record { at = λ a l. S .done a l ∙ counts-sum w next C a (omega arith) }
 
 -- nothing was found before
-pub kept-zeros : (w base t ends : List ℕ) → Zeros ends → Kept w base t ends base t
-kept-zeros w base t ends Z = kept-start w base t ends (λ a h. Z .at a)
+pub kept-zeros : (f : Listing) (w base t ends : List ℕ) → Zeros ends → Kept f w base t ends base t
+kept-zeros f w base t ends Z = kept-start f w base t ends (λ a h. Z .at a)
 
 -- the first turn of the finder counts
-pub counts-are : (w e n t e′ n′ t′ : List ℕ) → Zeros e → Zeros n → Keeps w e n t e′ n′ t′ → Solved w 0 (length w) e′ → Counts w n′
-counts-are w e n t e′ n′ t′ E N K D =
-    record { at = λ a h. omega (arith, all-counted w n t e′ n′ t′ (K .kept n t (kept-zeros w n t e E)) D a h, N .at a) }
+pub counts-are : (f : Listing) (w e n t e′ n′ t′ : List ℕ) → Zeros e → Zeros n → Keeps f w e n t e′ n′ t′ → Solved w 0 (length w) e′ → Counts w n′
+counts-are f w e n t e′ n′ t′ E N K D =
+    record { at = λ a h. omega (arith, all-counted f w n t e′ n′ t′ (K .kept n t (kept-zeros f w n t e E)) D a h, N .at a) }
 
 -- and the second one writes
-pub table-is : (w e n t e′ n′ t′ : List ℕ) → Zeros e → Starts w n → stride * length (runsOf w) ≤ length t → Keeps w e n t e′ n′ t′ → Solved w 0 (length w) e′ → t′ ≡ sets t 0 (flat (runsOf w))
-table-is w e n t e′ n′ t′ E S room K D = all-placed w n t e′ n′ t′ (K .kept n t (kept-zeros w n t e E)) D S room
+pub table-is : (f : Listing) (w e n t e′ n′ t′ : List ℕ) → Zeros e → Starts w n → strideOf f * length (runsOf w) ≤ length t → Keeps f w e n t e′ n′ t′ → Solved w 0 (length w) e′ → t′ ≡ sets t 0 (flatBy f (runsOf w))
+table-is f w e n t e′ n′ t′ E S room K D = all-placed f w n t e′ n′ t′ (K .kept n t (kept-zeros f w n t e E)) D S room
 
 -- ---- room
 

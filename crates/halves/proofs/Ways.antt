@@ -14,6 +14,7 @@ use Rattle.runs.specs.Table.{run?, left?, right?}
 use Rattle.runs.proofs.InPlace.{RunIn}
 use Rattle.runs.proofs.Listed.{run-sound}
 use Rattle.runs.proofs.Rows.{right-end, right-test}
+use Rattle.runs.specs.declared.Listing.{Listing}
 use Rattle.halves.specs.Scratch.{endsRow, nextRow}
 use Rattle.halves.specs.Found.{Periodic, Ready, New, Tried}
 use Rattle.halves.specs.Kept.{Advances, SamePrefixes}
@@ -57,13 +58,13 @@ right-false w b p h l d = go (decLt b (length w))
 
 -- ---- the ways
 
-module _ (w s table : List ℕ) (a b p : ℕ) (P : Periodic w a b p) where
+module _ (f : Listing) (w s table : List ℕ) (a b p : ℕ) (P : Periodic w a b p) where
   -- nothing is recorded: either the part is no run, or it was found
   abbrev Stays : Type 0
-  Stays = Advances w s table s table × (SamePrefixes w s s × Tried w a b p (endsRow w s))
+  Stays = Advances f w s table s table × (SamePrefixes w s s × Tried w a b p (endsRow w s))
 
   stays : (T (run? w a b) → smallestPeriod (part w a b) ≡ p → b ≤ getD (endsRow w s) a 0) → Stays
-  stays h = (keeps-none w (endsRow w s) (nextRow w s) table, (record { prefixes = refl; suffixes = refl }, record { found = h }))
+  stays h = (keeps-none f w (endsRow w s) (nextRow w s) table, (record { prefixes = refl; suffixes = refl }, record { found = h }))
 
   run : T (run? w a b) → smallestPeriod (part w a b) ≡ p → RunIn (symbol w) (length w) a b p
   run t q = subst (λ (z : ℕ). RunIn (symbol w) (length w) a b z) q (run-sound w a b (P .within) t)

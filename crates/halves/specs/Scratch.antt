@@ -6,15 +6,20 @@ use lib.Dec.{ltb}
 use lib.ListN.{length, take, drop}
 use lib.Seq.{sets}
 use Rattle.answers.specs.Outcome.{limit}
-use Rattle.runs.specs.Table.{runsOf, stride, flat}
+use Rattle.runs.specs.declared.Listing.{Listing}
+use Rattle.runs.specs.Table.{runsOf}
+use Rattle.runs.specs.Listing.{strideOf, flatBy}
 
 -- the rows of the scratch
 abbrev pub scratchRows : ℕ
 scratchRows = 4
 
--- the longest of the words that get small arrays
+-- the longest of the words that get small arrays, and of those that get arrays of middle size
 abbrev pub shortLimit : ℕ
 shortLimit = 64
+
+abbrev pub middleLimit : ℕ
+middleLimit = 4096
 
 -- the word is within the limit, and each row has a place for every boundary of it
 abbrev pub Scratch : List ℕ → List ℕ → Type 0
@@ -40,6 +45,6 @@ endsRow w s = rowFrom (length w) (2 * (length w + 1)) s
 abbrev pub nextRow : List ℕ → List ℕ → List ℕ
 nextRow w s = rowFrom (length w) (3 * (length w + 1)) s
 
--- a table with the records of all runs at its front, if it has places for all of them
-unfoldable pub listed : List ℕ → List ℕ → List ℕ
-listed w t = cond (ltb (length t) (stride * length (runsOf w))) t (sets t 0 (flat (runsOf w)))
+-- a table with what is listed of each run at its front, if it has places for all of them
+unfoldable pub listed : Listing → List ℕ → List ℕ → List ℕ
+listed l w t = cond (ltb (length t) (strideOf l * length (runsOf w))) t (sets t 0 (flatBy l (runsOf w)))

@@ -10,5 +10,8 @@ pub const ROWS: usize = 4;
 // Parts of at most so many symbols are not halved.
 const LEAF: usize = 16;
 
-// Words of at most so many symbols get local arrays of this size, others arrays of the limit's.
+// Words of at most so many symbols get local arrays of this size,
 pub const SHORT: usize = 64;
+
+// those of at most so many arrays of this size, and others arrays of the limit's.
+pub const MIDDLE: usize = 4096;

@@ -2,14 +2,16 @@
 // greatest end found for each boundary, and the number of the next record for each boundary.
 ghost use mathlib.Core.Path.{_≡_};
 ghost use Prim.Native.Nat.{_+_, _-_, _*_, _≤_, _<_, _^_};
-ghost use lib.ListN.{length};
+ghost use lib.ListN.{length, set};
 ghost use lib.Seq.{sets};
 ghost use Rattle.answers.specs.Outcome.{limit};
 ghost use Rattle.periods.specs.Period.{part, SmallestPeriod};
 ghost use Rattle.runs.specs.Table.{left?, right?, stride, numbersOf};
+ghost use Rattle.runs.specs.Listing.{markOf, entryOf, strideOf};
 ghost use Rattle.halves.specs.Scratch.{Scratch, prefixRow, suffixRow, endsRow};
 ghost use Rattle.halves.specs.Found.{Periodic, Tables, Ready, New, Tried, Met, Solved};
 ghost use Rattle.halves.specs.Kept.{newRecord, Roomy, Halved, Crossed, Advances, SamePrefixes, SameRecords};
+use runs::Listing;
 use runs::Record;
 use runs::STRIDE;
 
@@ -37,7 +39,7 @@ fn right_maximal(w: &[u16], n: usize, b: usize, p: usize) -> bool
 
 // Stores the record of the run with period p between the boundaries a and b as number i of the table
 // from 0, as far as the table has the places. Where it has none, no root is looked for.
-fn put_run(w: &[u16], a: usize, b: usize, p: usize, table: &mut [u32], i: usize)
+fn put_record(w: &[u16], a: usize, b: usize, p: usize, table: &mut [u32], i: usize)
     requires { ⌜ (i < 2 ^ 32) × (length (now w) ≤ limit) × (b ≤ length (now w)) × (a + 2 * p ≤ length (now w)) × SmallestPeriod (part (now w) a (a + 2 * p)) p ⌝ }
     ensures { λ _. ⌜ now (table .exit) ≡ sets (now (table .entry)) (stride * i) (numbersOf (newRecord (now (w .entry)) a b p)) ⌝ }
 {
@@ -53,11 +55,51 @@ fn put_run(w: &[u16], a: usize, b: usize, p: usize, table: &mut [u32], i: usize)
     runs::inner::put(table, i, run);
 }
 
+// Stores a mark as number i of the table from 0: whether the run has a white node at position x. Its
+// root does not matter.
+fn put_mark(a: usize, b: usize, p: usize, turns: u32, x: u32, table: &mut [u32], i: usize)
+    requires { ⌜ (a < limit) × (b ≤ limit) × (p ≤ limit) ⌝ }
+    ensures { λ _. ⌜ now (table .exit) ≡ set (now (table .entry)) i (markOf turns x (a + 1) b p) ⌝ }
+{
+    let run = Record {
+        first: (a + 1) as u32,
+        last: b as u32,
+        period: p as u32,
+        root: 0,
+    };
+    if runs::inner::is_node(run, turns, x) {
+        runs::inner::store(table, i, 1);
+        return;
+    }
+    runs::inner::store(table, i, 0);
+}
+
+// Stores what is listed of the run with period p between the boundaries a and b as number i of the
+// table from 0, as far as the table has the places.
+fn put_run(w: &[u16], a: usize, b: usize, p: usize, listing: Listing, table: &mut [u32], i: usize)
+    requires { ⌜ (i < 2 ^ 32) × (length (now w) ≤ limit) × (b ≤ length (now w)) × (a + 2 * p ≤ length (now w)) × SmallestPeriod (part (now w) a (a + 2 * p)) p ⌝ }
+    ensures { λ _. ⌜ now (table .exit) ≡ sets (now (table .entry)) (strideOf listing * i) (entryOf listing (newRecord (now (w .entry)) a b p)) ⌝ }
+{
+    match listing {
+        Listing::Records => put_record(w, a, b, p, table, i),
+        Listing::Keys => runs::inner::store(table, i, runs::inner::key(a, p)),
+        Listing::Marks(turns, x) => put_mark(a, b, p, turns, x, table, i),
+    }
+}
+
 // Records the run with period p between the boundaries a and b, which ends later than all that were
 // found after a.
-fn add_run(w: &[u16], a: usize, b: usize, p: usize, scratch: &mut [u32], table: &mut [u32])
+fn add_run(
+    w: &[u16],
+    a: usize,
+    b: usize,
+    p: usize,
+    listing: Listing,
+    scratch: &mut [u32],
+    table: &mut [u32],
+)
     requires { ⌜ Roomy (now w) (now scratch) × New (now w) a b p (endsRow (now w) (now scratch)) ⌝ }
-    ensures keeps { λ _. ⌜ Advances (now (w .entry)) (now (scratch .entry)) (now (table .entry)) (now (scratch .exit)) (now (table .exit)) ⌝ }
+    ensures keeps { λ _. ⌜ Advances listing (now (w .entry)) (now (scratch .entry)) (now (table .entry)) (now (scratch .exit)) (now (table .exit)) ⌝ }
     ensures same { λ _. ⌜ SamePrefixes (now (w .entry)) (now (scratch .entry)) (now (scratch .exit)) ⌝ }
     ensures tried { λ _. ⌜ Tried (now (w .entry)) a b p (endsRow (now (w .entry)) (now (scratch .exit))) ⌝ }
 {
@@ -65,7 +107,7 @@ fn add_run(w: &[u16], a: usize, b: usize, p: usize, scratch: &mut [u32], table: 
     let end = 2 * row + a;
     let next = 3 * row + a;
     let at = scratch[next];
-    put_run(w, a, b, p, table, at as usize);
+    put_run(w, a, b, p, listing, table, at as usize);
     scratch[end] = b as u32;
     scratch[next] = at + 1;
 }
@@ -78,11 +120,12 @@ pub(crate) fn attempt(
     p: usize,
     left: usize,
     right: usize,
+    listing: Listing,
     scratch: &mut [u32],
     table: &mut [u32],
 )
     requires { ⌜ (left ≤ c) × Periodic (now w) (c - left) (c + p + right) p × Ready (now w) (c - left) (c + p + right) p (endsRow (now w) (now scratch)) × Roomy (now w) (now scratch) ⌝ }
-    ensures keeps { λ _. ⌜ Advances (now (w .entry)) (now (scratch .entry)) (now (table .entry)) (now (scratch .exit)) (now (table .exit)) ⌝ }
+    ensures keeps { λ _. ⌜ Advances listing (now (w .entry)) (now (scratch .entry)) (now (table .entry)) (now (scratch .exit)) (now (table .exit)) ⌝ }
     ensures same { λ _. ⌜ SamePrefixes (now (w .entry)) (now (scratch .entry)) (now (scratch .exit)) ⌝ }
     ensures tried { λ _. ⌜ Tried (now (w .entry)) (c - left) (c + p + right) p (endsRow (now (w .entry)) (now (scratch .exit))) ⌝ }
 {
@@ -102,7 +145,7 @@ pub(crate) fn attempt(
     if !right_maximal(w, n, b, p) {
         return;
     }
-    add_run(w, a, b, p, scratch, table);
+    add_run(w, a, b, p, listing, scratch, table);
 }
 
 // Tries the longest part of period p around the p symbols after boundary m, between lo and hi.
@@ -112,11 +155,12 @@ fn above(
     m: usize,
     hi: usize,
     p: usize,
+    listing: Listing,
     scratch: &mut [u32],
     table: &mut [u32],
 )
     requires { ⌜ Crossed (now w) lo m hi p (now scratch) ⌝ }
-    ensures keeps { λ _. ⌜ Advances (now (w .entry)) (now (scratch .entry)) (now (table .entry)) (now (scratch .exit)) (now (table .exit)) ⌝ }
+    ensures keeps { λ _. ⌜ Advances listing (now (w .entry)) (now (scratch .entry)) (now (table .entry)) (now (scratch .exit)) (now (table .exit)) ⌝ }
     ensures same { λ _. ⌜ SamePrefixes (now (w .entry)) (now (scratch .entry)) (now (scratch .exit)) ⌝ }
     ensures met { λ _. ⌜ Met (now (w .entry)) lo hi (m + p) p (endsRow (now (w .entry)) (now (scratch .exit))) ⌝ }
 {
@@ -127,7 +171,7 @@ fn above(
     let after = m - lo + p;
     let left = scratch[before] as usize;
     let right = scratch[after] as usize;
-    attempt(w, m, p, left, right, scratch, table);
+    attempt(w, m, p, left, right, listing, scratch, table);
 }
 
 // The same around the p symbols before it.
@@ -137,11 +181,12 @@ fn below(
     m: usize,
     hi: usize,
     p: usize,
+    listing: Listing,
     scratch: &mut [u32],
     table: &mut [u32],
 )
     requires { ⌜ Crossed (now w) lo m hi p (now scratch) ⌝ }
-    ensures keeps { λ _. ⌜ Advances (now (w .entry)) (now (scratch .entry)) (now (table .entry)) (now (scratch .exit)) (now (table .exit)) ⌝ }
+    ensures keeps { λ _. ⌜ Advances listing (now (w .entry)) (now (scratch .entry)) (now (table .entry)) (now (scratch .exit)) (now (table .exit)) ⌝ }
     ensures same { λ _. ⌜ SamePrefixes (now (w .entry)) (now (scratch .entry)) (now (scratch .exit)) ⌝ }
     ensures met { λ _. ⌜ Met (now (w .entry)) lo hi m p (endsRow (now (w .entry)) (now (scratch .exit))) ⌝ }
 {
@@ -153,7 +198,7 @@ fn below(
     let left = scratch[before] as usize;
     let right = scratch[after] as usize;
     let c = m - p;
-    attempt(w, c, p, left, right, scratch, table);
+    attempt(w, c, p, left, right, listing, scratch, table);
 }
 
 // Fills the rows of common prefixes and suffixes of the part between lo and hi, with what follows
@@ -176,19 +221,20 @@ pub(crate) fn node(
     lo: usize,
     m: usize,
     hi: usize,
+    listing: Listing,
     scratch: &mut [u32],
     table: &mut [u32],
 )
     requires { ⌜ Halved (now w) lo m hi (now scratch) ⌝ }
-    ensures keeps { λ _. ⌜ Advances (now (w .entry)) (now (scratch .entry)) (now (table .entry)) (now (scratch .exit)) (now (table .exit)) ⌝ }
+    ensures keeps { λ _. ⌜ Advances listing (now (w .entry)) (now (scratch .entry)) (now (table .entry)) (now (scratch .exit)) (now (table .exit)) ⌝ }
     ensures solved { λ _. ⌜ Solved (now (w .entry)) lo hi (endsRow (now (w .entry)) (now (scratch .exit))) ⌝ }
 {
     fill_tables(w, lo, m, hi, scratch);
     let half = (hi - lo) / 2;
     let mut p: usize = 1;
     while p <= half {
-        above(w, lo, m, hi, p, scratch, table);
-        below(w, lo, m, hi, p, scratch, table);
+        above(w, lo, m, hi, p, listing, scratch, table);
+        below(w, lo, m, hi, p, listing, scratch, table);
         p += 1;
     }
 }

@@ -8,7 +8,8 @@ use Rattle.periods.specs.Period.{smallestPeriod, repetition?, heldPeriod}
 use Rattle.periods.specs.Edition.{badEdition?, turnsOf}
 use Rattle.periods.specs.Square.{power}
 use Rattle.runs.specs.Table.{run?, runBetween, rowsAt, rowsBefore, runsOf}
-use Rattle.nodes.specs.Node.{node?, nodesAt}
+use Rattle.runs.specs.Listing.{node?}
+use Rattle.nodes.specs.Node.{nodesAt}
 use Rattle.nodes.specs.Calls.{nodesOutcome, nodesTable}
 use Rattle.periods.proofs.Words.{one-and, word-aa, word-aabaabaa, word-abababab}
 
@@ -96,12 +97,12 @@ pub nodes-edition-3 : nodesOutcome word-aabaabaa 3 9 0 ≡ refused 12 0
 unfolding nodesOutcome badEdition?
 nodes-edition-3 = refl
 
-pub nodes-too-long-before-edition : nodesOutcome (replicate 4097 97) 3 1 0 ≡ refused 1 0
+pub nodes-too-long-before-edition : nodesOutcome (replicate 70001 97) 3 1 0 ≡ refused 1 0
 unfolding nodesOutcome
 nodes-too-long-before-edition = refl
 
--- "4,097 passes"
-pub nodes-too-long-first : nodesOutcome (replicate 4097 97) 1 0 0 ≡ refused 1 0
+-- "70,001 passes"
+pub nodes-too-long-first : nodesOutcome (replicate 70001 97) 1 0 0 ≡ refused 1 0
 unfolding nodesOutcome badEdition?
 nodes-too-long-first = refl
 

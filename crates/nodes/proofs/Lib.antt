@@ -1,4 +1,5 @@
 pub mod WhiteNodes
+pub mod Marks
 pub mod CallClaims
 pub mod Determined
 pub mod Examples

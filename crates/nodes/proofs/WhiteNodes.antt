@@ -1,25 +1,21 @@
 -- White nodes: the test decides them, so the numbers of the records that pass it are those of the runs with a node, rising: `nodes-listed`, for any records.
--- Then the laws that the code goes by: one more record, and the order of its tests. By induction on the records. Assumes nothing.
+-- By induction on the records. Assumes nothing.
 use mathlib.Core.Path.{_≡_, refl, sym, ap, _∙_, subst}
 use mathlib.Core.Logic.{_⊎_, inl, inr}
-use mathlib.Core.Bool.{Bool, true, false, cond, _&&_, and-true, and-false}
-use mathlib.Core.List.{List, [], _∷_, _++_, append-assoc, append-nil, List·Memᴰ, List·Memᴰ·head, List·Memᴰ·tail, List·Memᴰ·cases-cons, List·Memᴰ·not-nil}
-use Prim.Native.Nat.{ℕ, zero, suc, _+_, _*_, _≤_, _<_}
+use mathlib.Core.Bool.{Bool, true, false, cond, _&&_}
+use mathlib.Core.List.{List, [], _∷_, _++_, List·Memᴰ, List·Memᴰ·head, List·Memᴰ·tail, List·Memᴰ·cases-cons, List·Memᴰ·not-nil}
+use Prim.Native.Nat.{ℕ, zero, suc, _+_, _*_, _≤_}
 use native.Mathlib.Omega.{arith}
-use native.Mathlib.Numerals.{add-one}
-use native.Mathlib.Nat.{zero-add, add-zero}
-use borrow.Author.Tests.{le-leb, lt-leb}
 use lib.Dec.{T, leb, leb→le, le→leb}
 use lib.ListN.{length}
 use Rattle.laws.proofs.Tests.{and-intro, and-left, and-right}
 use Rattle.periods.specs.Period.{heldPeriod}
-use Rattle.periods.specs.Edition.{turnsOf}
 use Rattle.runs.specs.declared.Record.{Record}
 use Rattle.runs.specs.Run.{Entry}
-use Rattle.nodes.specs.Node.{White, node?, numbersWhere, nodesAt}
-use Rattle.runs.specs.Table.{runsOf, recordAt, records}
+use Rattle.runs.specs.Listing.{node?}
+use Rattle.nodes.specs.Node.{White, numbersWhere, nodesAt}
+use Rattle.runs.specs.Table.{runsOf}
 use Rattle.nodes.specs.Calls.{Rising, ListsNodes}
-use Rattle.runs.proofs.Records.{records-more, length-records}
 
 -- ---- the numbers of the records that pass a test
 
@@ -66,13 +62,6 @@ module _ (t : Record → Bool) where
       go ih true = (omega arith, ih)
       go ih false = lower (suc i) (numbersWhere t (suc i) rs) (omega arith) ih
 
-  pub numbers-append : (i : ℕ) (rs ss : List Record) → numbersWhere t i (rs ++ ss) ≡ numbersWhere t i rs ++ numbersWhere t (i + length rs) ss
-  numbers-append i [] ss = ap (λ (j : ℕ). numbersWhere t j ss) (sym (add-zero i))
-  numbers-append i (r ∷ rs) ss =
-      let e : suc i + length rs ≡ i + suc (length rs) = omega arith in
-      ap (λ (l : List ℕ). cond (t r) (suc i ∷ []) [] ++ l) (numbers-append (suc i) rs ss ∙ ap (λ (j : ℕ). numbersWhere t (suc i) rs ++ numbersWhere t j ss) e)
-      ∙ sym (append-assoc (cond (t r) (suc i ∷ []) []) (numbersWhere t (suc i) rs) (numbersWhere t (i + suc (length rs)) ss))
-
   pub numbers-at-most : (i : ℕ) (rs : List Record) → length (numbersWhere t i rs) ≤ length rs
   numbers-at-most i [] = omega arith
   numbers-at-most i (r ∷ rs) = go (numbers-at-most (suc i) rs) (t r)
@@ -80,20 +69,6 @@ module _ (t : Record → Bool) where
       go : length (numbersWhere t (suc i) rs) ≤ length rs → (u : Bool) → length (cond u (suc i ∷ []) [] ++ numbersWhere t (suc i) rs) ≤ suc (length rs)
       go ih true = omega arith
       go ih false = omega arith
-
-  -- ---- one more record of a table
-
-  pub pick-skip : (rows : List ℕ) (i : ℕ) → t (recordAt rows i) ≡ false → numbersWhere t 0 (records (i + 1) rows) ≡ numbersWhere t 0 (records i rows)
-  pick-skip rows i h =
-      ap (numbersWhere t 0) (records-more rows i)
-      ∙ numbers-append 0 (records i rows) (recordAt rows i ∷ [])
-      ∙ rw h (append-nil (numbersWhere t 0 (records i rows)))
-
-  pub pick-add : (rows : List ℕ) (i : ℕ) → t (recordAt rows i) ≡ true → numbersWhere t 0 (records (i + 1) rows) ≡ numbersWhere t 0 (records i rows) ++ ((i + 1) ∷ [])
-  pick-add rows i h =
-      ap (numbersWhere t 0) (records-more rows i)
-      ∙ numbers-append 0 (records i rows) (recordAt rows i ∷ [])
-      ∙ rw (h, length-records rows i, zero-add i, add-one i) refl
 
 -- ---- CLAIM: the test decides the nodes, of any records
 
@@ -130,25 +105,7 @@ module _ (allowed : ℕ → Bool) (k : ℕ) (rows : List Record) (x : ℕ) where
       complete zero W = absurd (W .numbered)
       complete (suc m) W = numbers-complete (node? allowed k x) rows 0 m (W .run) (W .numbered) (white-node (suc m) W) (suc m) (omega arith)
 
--- ---- the test, in the order of the code
-
-module _ (allowed : ℕ → Bool) (k x : ℕ) (r : Record) where
-  pub node-barred : allowed (r .period) ≡ false → false ≡ node? allowed k x r
-  node-barred h = simp (h, and-false (leb x (r .last)), and-false (leb (r .first + k * r .period) (x + 1)))
-
-  pub node-early : x + 1 < r .first + k * r .period → false ≡ node? allowed k x r
-  node-early h = rw (lt-leb (r .first + k * r .period) (x + 1) h) refl
-
-  pub node-reached : allowed (r .period) ≡ true → r .first + k * r .period ≤ x + 1 → leb x (r .last) ≡ node? allowed k x r
-  node-reached t h = rw (le-leb (r .first + k * r .period) (x + 1) h, t) (sym (and-true (leb x (r .last))))
-
 -- there are no more nodes at a position than runs
 pub nodes-at-most : (k : ℕ) (w : List ℕ) (x : ℕ) → length (nodesAt heldPeriod k w x) ≤ length (runsOf w)
 unfolding nodesAt
 nodes-at-most k w x = numbers-at-most (node? heldPeriod k x) 0 (runsOf w)
-
--- the numbers that are picked among all runs, by the turn number of an edition
-pub nodes-picked : (edition k : ℕ) (w : List ℕ) (x : ℕ) (rows : List Record) → k ≡ turnsOf edition → rows ≡ runsOf w
-    → numbersWhere (node? heldPeriod k x) 0 rows ≡ nodesAt heldPeriod (turnsOf edition) w x
-unfolding nodesAt
-nodes-picked edition k w x rows e f = rw (e, f) refl

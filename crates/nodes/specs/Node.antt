@@ -1,11 +1,12 @@
 -- White nodes of the repetition graph, and those at a position, computed.
-use mathlib.Core.Bool.{Bool, cond, _&&_}
+use mathlib.Core.Bool.{Bool, cond}
 use mathlib.Core.List.{List, [], _∷_, _++_}
 use Prim.Native.Nat.{ℕ, suc, _+_, _*_, _≤_}
-use lib.Dec.{T, leb}
+use lib.Dec.{T}
 use Rattle.runs.specs.declared.Record.{Record}
 use Rattle.runs.specs.Run.{Entry}
 use Rattle.runs.specs.Table.{runsOf}
+use Rattle.runs.specs.Listing.{node?}
 
 -- "Run i has a white node at each position from first+2×unit−1 to last", and in edition 2 "from first+3×unit−1". The turn number is k, and only allowed
 -- periods have nodes: "a run with a longer unit stays in the list but has no white nodes".
@@ -17,10 +18,6 @@ pub record White (allowed : ℕ → Bool) (k : ℕ) (rows : List Record) (i x : 
   pub permitted : T (allowed (run .period))
 
 -- ---- the same, computed
-
--- whether a run has a white node at position x
-abbrev pub node? : (ℕ → Bool) → ℕ → ℕ → Record → Bool
-node? allowed k x r = leb (r .first + k * r .period) (x + 1) && (leb x (r .last) && allowed (r .period))
 
 -- the numbers, from i + 1 on, of the records that pass a test
 abbrev pub numbersWhere : (Record → Bool) → ℕ → List Record → List ℕ

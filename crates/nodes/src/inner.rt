@@ -1,102 +1,153 @@
-// For this crate's call: the caller shows what each function requires.
+// For this crate's calls: the caller shows what each function requires.
 ghost use mathlib.Core.Path.{_≡_};
-ghost use Prim.Native.Nat.{_≤_, _*_};
-ghost use lib.ListN.{length};
+ghost use Prim.Native.Nat.{_≤_};
+ghost use lib.ListN.{length, take};
 ghost use lib.Seq.{sets};
 ghost use Rattle.answers.specs.Outcome.{countedView, limit};
-ghost use Rattle.periods.specs.Period.{heldPeriod};
-ghost use Rattle.periods.specs.Edition.{Turns};
-ghost use Rattle.runs.specs.Table.{stride, records};
-ghost use Rattle.halves.specs.Scratch.{Scratch, shortLimit};
-ghost use Rattle.nodes.specs.Node.{node?, numbersWhere};
-ghost use Rattle.nodes.specs.Calls.{nodesOutcome, nodesTable};
-ghost use Rattle.nodes.specs.Inner.{Tested};
+ghost use Rattle.periods.specs.Width.{wordOf};
+ghost use Rattle.halves.specs.Scratch.{middleLimit};
+ghost use Rattle.nodes.specs.Calls.{nodesOutcome, nodesTable, NodesMeaning};
+ghost use Rattle.nodes.specs.Inner.{Tested, marked};
 use answers::Counted;
 use answers::Refusal;
-use runs::Record;
-use runs::STRIDE;
+use runs::Listing;
 
-// Whether a run has a white node at position x, where a repetition has so many turns at least.
-fn is_node(run: Record, turns: usize, x: usize) -> bool
-    requires { ⌜ (x ≤ limit) × Turns turns ⌝ }
-    ensures { λ r. ⌜ r ≡ node? heldPeriod turns x run ⌝ }
-{
-    let unit = run.period as usize;
-    if periods::UNIT_MEMORY < unit {
-        return false;
-    }
-    let from = run.first as usize + turns * unit;
-    if x + 1 < from {
-        return false;
-    }
-    x <= run.last as usize
-}
-
-// Of the first count records, writes the numbers of those with a white node at position x, as far
-// as the table has places, and gives their count.
-fn pick(rows: &[u32], count: usize, turns: usize, x: usize, out: &mut [u32]) -> usize
-    requires { ⌜ (stride * count ≤ length (now rows)) × (count ≤ limit) × (x ≤ limit) × Turns turns ⌝ }
-    ensures { λ r. ⌜ r ≡ length (numbersWhere (node? heldPeriod turns x) 0 (records count (now (rows .entry)))) ⌝ }
-    ensures { λ _. ⌜ now (out .exit) ≡ sets (now (out .entry)) 0 (numbersWhere (node? heldPeriod turns x) 0 (records count (now (rows .entry)))) ⌝ }
+// Of the first count marks, writes the numbers from 1 of those that are set, as far as the table has
+// places, and gives their count.
+fn pick(marks: &[u32], count: usize, out: &mut [u32]) -> usize
+    requires { ⌜ (count ≤ length (now marks)) × (count ≤ limit) ⌝ }
+    ensures { λ r. ⌜ r ≡ length (marked 0 (take count (now (marks .entry)))) ⌝ }
+    ensures { λ _. ⌜ now (out .exit) ≡ sets (now (out .entry)) 0 (marked 0 (take count (now (marks .entry)))) ⌝ }
 {
     let mut found: usize = 0;
     let mut i: usize = 0;
     while i < count {
-        let run = runs::inner::row(rows, i);
-        if !is_node(run, turns, x) {
+        if marks[i] != 1 {
             i += 1;
             continue;
         }
-        runs::inner::store(out, found, (i + 1) as u32);
-        found += 1;
         i += 1;
+        runs::inner::store(out, found, i as u32);
+        found += 1;
     }
     found
 }
 
-// The nodes call once its refusals 1, 12 and 6 are ruled out, over what it is lent for the runs.
+// The nodes call once its refusals 1, 12 and 6 are ruled out, over lent places for a mark of each run.
 fn nodes_in(
-    w: &[u16],
+    bytes: &[u8],
+    codes: &[u16],
+    wide: bool,
     edition: u32,
-    x: usize,
-    scratch: &mut [u32],
-    rows: &mut [u32],
+    x: u32,
+    marks: &mut [u32],
     table: &mut [u32],
 ) -> Counted
-    requires { ⌜ Tested (now w) edition x × Scratch (now w) (now scratch) × (stride * length (now w) ≤ length (now rows)) ⌝ }
-    ensures { λ r. ⌜ countedView r ≡ nodesOutcome (now (w .entry)) edition x (length (now (table .entry))) ⌝ }
-    ensures { λ _. ⌜ now (table .exit) ≡ nodesTable (now (w .entry)) edition x (now (table .entry)) ⌝ }
+    requires { ⌜ Tested (wordOf wide (now bytes) (now codes)) edition x × (length (wordOf wide (now bytes) (now codes)) ≤ length (now marks)) ⌝ }
+    ensures { λ r. ⌜ countedView r ≡ nodesOutcome (wordOf wide (now (bytes .entry)) (now (codes .entry))) edition x (length (now (table .entry))) ⌝ }
+    ensures { λ _. ⌜ now (table .exit) ≡ nodesTable (wordOf wide (now (bytes .entry)) (now (codes .entry))) edition x (now (table .entry)) ⌝ }
 {
-    let count = halves::inner::list(w, scratch, rows);
-    let turns = periods::turns(edition);
+    let turns = periods::turns(edition) as u32;
+    let mut none = [0u32; 0];
+    let listing = Listing::Marks(turns, x);
+    let count = halves::inner::list(bytes, codes, wide, listing, &mut none, marks);
     // an empty part of the table: its bounds are locals, as the borrow checker wants those of a part
     let zero: usize = 0;
-    let found = pick(rows, count, turns, x, &mut table[zero..zero]);
+    let found = pick(marks, count, &mut table[zero..zero]);
     if table.len() < found {
         return Counted::Refused(Refusal::TooFewPlaces);
     }
-    pick(rows, count, turns, x, table);
+    pick(marks, count, table);
     Counted::Count(found as u32)
 }
 
-// The same with arrays of its own for a short word, so that it does not clear those of a long one.
-pub(crate) fn nodes_short(w: &[u16], edition: u32, x: usize, table: &mut [u32]) -> Counted
-    requires { ⌜ Tested (now w) edition x × (length (now w) ≤ shortLimit) ⌝ }
-    ensures { λ r. ⌜ countedView r ≡ nodesOutcome (now (w .entry)) edition x (length (now (table .entry))) ⌝ }
-    ensures { λ _. ⌜ now (table .exit) ≡ nodesTable (now (w .entry)) edition x (now (table .entry)) ⌝ }
+// The same where the lent places may be too few: then one of the next two lends more, as
+// halves::inner::list_16 does.
+fn nodes_at(
+    bytes: &[u8],
+    codes: &[u16],
+    wide: bool,
+    edition: u32,
+    x: u32,
+    marks: &mut [u32],
+    table: &mut [u32],
+) -> Counted
+    requires { ⌜ Tested (wordOf wide (now bytes) (now codes)) edition x ⌝ }
+    ensures { λ r. ⌜ countedView r ≡ nodesOutcome (wordOf wide (now (bytes .entry)) (now (codes .entry))) edition x (length (now (table .entry))) ⌝ }
+    ensures { λ _. ⌜ now (table .exit) ≡ nodesTable (wordOf wide (now (bytes .entry)) (now (codes .entry))) edition x (now (table .entry)) ⌝ }
 {
-    let mut scratch = [0u32; halves::ROWS * (halves::SHORT + 1)];
-    let mut rows = [0u32; STRIDE * halves::SHORT];
-    nodes_in(w, edition, x, &mut scratch, &mut rows, table)
+    let n = periods::either::length(bytes, codes, wide);
+    if n <= marks.len() {
+        return nodes_in(bytes, codes, wide, edition, x, marks, table);
+    }
+    if n <= halves::SHORT {
+        let mut short = [0u32; halves::SHORT];
+        return nodes_at(bytes, codes, wide, edition, x, &mut short, table);
+    }
+    if n <= halves::MIDDLE {
+        return nodes_middle(bytes, codes, wide, edition, x, table);
+    }
+    nodes_long(bytes, codes, wide, edition, x, table)
 }
 
-// The same for every word within the limit.
-pub(crate) fn nodes_long(w: &[u16], edition: u32, x: usize, table: &mut [u32]) -> Counted
-    requires { ⌜ Tested (now w) edition x ⌝ }
-    ensures { λ r. ⌜ countedView r ≡ nodesOutcome (now (w .entry)) edition x (length (now (table .entry))) ⌝ }
-    ensures { λ _. ⌜ now (table .exit) ≡ nodesTable (now (w .entry)) edition x (now (table .entry)) ⌝ }
+fn nodes_middle(
+    bytes: &[u8],
+    codes: &[u16],
+    wide: bool,
+    edition: u32,
+    x: u32,
+    table: &mut [u32],
+) -> Counted
+    requires { ⌜ Tested (wordOf wide (now bytes) (now codes)) edition x × (length (wordOf wide (now bytes) (now codes)) ≤ middleLimit) ⌝ }
+    ensures { λ r. ⌜ countedView r ≡ nodesOutcome (wordOf wide (now (bytes .entry)) (now (codes .entry))) edition x (length (now (table .entry))) ⌝ }
+    ensures { λ _. ⌜ now (table .exit) ≡ nodesTable (wordOf wide (now (bytes .entry)) (now (codes .entry))) edition x (now (table .entry)) ⌝ }
 {
-    let mut scratch = [0u32; halves::ROWS * (answers::LIMIT + 1)];
-    let mut rows = [0u32; STRIDE * answers::LIMIT];
-    nodes_in(w, edition, x, &mut scratch, &mut rows, table)
+    let mut marks = [0u32; halves::MIDDLE];
+    nodes_at(bytes, codes, wide, edition, x, &mut marks, table)
+}
+
+fn nodes_long(
+    bytes: &[u8],
+    codes: &[u16],
+    wide: bool,
+    edition: u32,
+    x: u32,
+    table: &mut [u32],
+) -> Counted
+    requires { ⌜ Tested (wordOf wide (now bytes) (now codes)) edition x ⌝ }
+    ensures { λ r. ⌜ countedView r ≡ nodesOutcome (wordOf wide (now (bytes .entry)) (now (codes .entry))) edition x (length (now (table .entry))) ⌝ }
+    ensures { λ _. ⌜ now (table .exit) ≡ nodesTable (wordOf wide (now (bytes .entry)) (now (codes .entry))) edition x (now (table .entry)) ⌝ }
+{
+    let mut marks = [0u32; answers::LIMIT];
+    nodes_at(bytes, codes, wide, edition, x, &mut marks, table)
+}
+
+// The nodes call, of a word of either width.
+pub(crate) fn nodes(
+    bytes: &[u8],
+    codes: &[u16],
+    wide: bool,
+    edition: u32,
+    position: u32,
+    table: &mut [u32],
+) -> Counted
+    ensures { λ r. ⌜ countedView r ≡ nodesOutcome (wordOf wide (now (bytes .entry)) (now (codes .entry))) edition position (length (now (table .entry))) ⌝ }
+    ensures { λ r. ⌜ now (table .exit) ≡ nodesTable (wordOf wide (now (bytes .entry)) (now (codes .entry))) edition position (now (table .entry)) ⌝ }
+    ensures { λ r. ⌜ NodesMeaning (wordOf wide (now (bytes .entry)) (now (codes .entry))) edition position (now (table .entry)) (countedView r) (now (table .exit)) ⌝ }
+{
+    let n = periods::either::length(bytes, codes, wide);
+    if answers::LIMIT < n {
+        return Counted::Refused(Refusal::TooLong);
+    }
+    if periods::bad_edition(edition) {
+        return Counted::Refused(Refusal::BadEdition);
+    }
+    if position < 1 {
+        return Counted::Refused(Refusal::BadPosition);
+    }
+    if n < position as usize {
+        return Counted::Refused(Refusal::BadPosition);
+    }
+    let mut none = [0u32; 0];
+    nodes_at(bytes, codes, wide, edition, position, &mut none, table)
 }

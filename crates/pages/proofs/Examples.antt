@@ -68,7 +68,7 @@ unfolding pageTable pageOutcome splitOutcome verdict badEdition? turnsOf textOfB
 kept-a-byte-short = refl
 
 -- "judge's order, then 7": with no byte lent, the refusals of the judge
-pub page-too-long : pageOutcome byteForm (replicate 4097 97) 3 [] 0 ≡ refused 1 0
+pub page-too-long : pageOutcome byteForm (replicate 70001 97) 3 [] 0 ≡ refused 1 0
 unfolding pageOutcome splitOutcome
 page-too-long = refl
 

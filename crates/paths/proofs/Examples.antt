@@ -189,7 +189,7 @@ pub path-edition-3 : pathJudgedOutcome word-aabaabaa 3 (1 ∷ []) ≡ refused 12
 unfolding pathJudgedOutcome badEdition?
 path-edition-3 = refl
 
-pub path-too-long-before-edition : pathJudgedOutcome (replicate 4097 97) 3 [] ≡ refused 1 0
+pub path-too-long-before-edition : pathJudgedOutcome (replicate 70001 97) 3 [] ≡ refused 1 0
 unfolding pathJudgedOutcome
 path-too-long-before-edition = refl
 

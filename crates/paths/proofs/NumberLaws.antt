@@ -17,7 +17,6 @@ use Rattle.periods.proofs.Claims.{repetition-by-unit}
 use Rattle.factors.proofs.BlockByBlock.{of-blocks-length, Taken, next-number}
 use Rattle.repetitions.specs.Block.{Block, block?}
 use Rattle.paths.specs.Calls.{runNumbers}
-use Rattle.paths.specs.Walk.{blockUnits}
 
 -- ---- the test of a piece, by its unit u
 
@@ -49,23 +48,3 @@ module _ (t ns : List ℕ) (enough : length ns ≤ length t) (k : ℕ) (u : List
   written-all h l =
       let e : k ≡ length ns = omega arith in
       rw e at W ∙ ap (λ (x : List ℕ). x ++ drop (length ns) t) (take-all (length ns) ns (omega arith))
-
--- a unit that stands in the table
-pub unit-there : (w ends t : List ℕ) (before k : ℕ) → Taken (Block heldPeriod 2 w) ends (length w) k before → k < length ends → take (length ends) t ≡ blockUnits w 0 ends
-    → getD t k 0 ≡ smallestPeriod (part w before (getD ends k 0))
-unit-there w ends t before k P l e = sym (getD-take (length ends) t k 0 l) ∙ ap (λ (x : List ℕ). getD x k 0) e ∙ next-number P l (λ a b. smallestPeriod (part w a b))
-
--- a table u that was t, with the units of the blocks written
-module _ (w ends t u : List ℕ) (room : length ends ≤ length t) (U : u ≡ blockUnits w 0 ends ++ drop (length ends) t) where
-  count : length (blockUnits w 0 ends) ≡ length ends
-  count = of-blocks-length (λ a b. smallestPeriod (part w a b)) 0 ends
-
-  pub units-room : length ends ≤ length u
-  units-room = omega (arith, ap length U, length-append (blockUnits w 0 ends) (drop (length ends) t), count)
-
-  pub units-stand : take (length ends) u ≡ blockUnits w 0 ends
-  units-stand = ap (take (length ends)) U ∙ take-at (blockUnits w 0 ends) (drop (length ends) t) (length ends) count
-
-  -- the run numbers in their places
-  pub numbers-stand : (v : List ℕ) → v ≡ runNumbers w 0 ends ++ drop (length ends) u → v ≡ runNumbers w 0 ends ++ drop (length ends) t
-  numbers-stand v N = N ∙ ap (λ (x : List ℕ). runNumbers w 0 ends ++ x) (ap (drop (length ends)) U ∙ drop-at (blockUnits w 0 ends) (drop (length ends) t) (length ends) count)

@@ -2,14 +2,16 @@
 -- over the pieces notes such runs.
 use mathlib.Core.Path.{_≡_}
 use mathlib.Core.Bool.{Bool, cond, _&&_}
-use mathlib.Core.List.{List, [], _∷_}
-use Prim.Native.Nat.{ℕ, zero, suc, _+_, _*_, _≤_, _<_}
+use mathlib.Core.List.{List, [], _∷_, _++_}
+use Prim.Native.Nat.{ℕ, zero, suc, _+_, _/_, _%_, _≤_, _<_}
 use lib.Dec.{leb, eqb}
 use lib.ListN.{length, getD}
 use Rattle.answers.specs.Outcome.{limit}
 use Rattle.runs.specs.declared.Record.{Record}
-use Rattle.runs.specs.Table.{runsOf, stride, recordAt, records}
-use Rattle.halves.specs.Scratch.{Scratch}
+use Rattle.periods.specs.Period.{part, blockUnit}
+use Rattle.runs.specs.Run.{Entry}
+use Rattle.runs.specs.Table.{runsOf}
+use Rattle.runs.specs.Listing.{keyStep, keyOf}
 
 -- the record with a number from 1, where there is one
 unfoldable pub entryOf : List Record → ℕ → List Record
@@ -39,27 +41,34 @@ latestNumber w p i = lastNumber (startsBy p i) (runsOf w)
 
 -- ---- what the loops over the pieces are lent, and keep
 
--- the word is within the limit, and the buffers have places for the finder's work and for the records of all runs
-abbrev pub Buffers : List ℕ → List ℕ → List ℕ → Type 0
-Buffers w scratch rows = Scratch w scratch × (stride * length w ≤ length rows)
+-- a run as far as its key tells it
+abbrev pub ofKey : ℕ → Record
+ofKey k = record { first = k / keyStep; last = 0; period = k % keyStep; root = 0 }
 
--- so many records can be read from a table, and the period of each is below `places`
-pub record Readable (rows : List ℕ) (count places : ℕ) : Type 0 where
+-- the runs of the first c keys
+unfoldable pub passed : ℕ → List ℕ → List Record
+passed zero keys = []
+passed (suc c) keys = passed c keys ++ (ofKey (getD keys c 0) ∷ [])
+
+-- so many keys can be read from a table, and they are those of the runs of the word
+pub record Keyed (w keys : List ℕ) (count : ℕ) : Type 0 where
   pub few : count ≤ limit
-  pub room : stride * count ≤ length rows
-  pub periods : (k : ℕ) → k < count → recordAt rows k .period < places
+  pub room : count ≤ length keys
+  pub all : count ≡ length (runsOf w)
+  pub at : (k : ℕ) (r : Record) → Entry (runsOf w) (suc k) r → getD keys k 0 ≡ keyOf (r .first) (r .period)
 
--- they are the runs of the word
-pub record Runs (w rows : List ℕ) (count places : ℕ) : Type 0 where
-  pub readable : Readable rows count places
-  pub are : records count rows ≡ runsOf w
-
--- the first `next` of them start at or before boundary i, and `latest` has at each period the number of the last of these with that period
-pub record Noted (rows : List ℕ) (count i next : ℕ) (latest : List ℕ) : Type 0 where
+-- the first `next` of them start at or before boundary i, and `latest` has at each unit that unit memory holds the number of the last of these with that unit
+pub record Noted (keys : List ℕ) (count i next : ℕ) (latest : List ℕ) : Type 0 where
   pub within : next ≤ count
-  pub early : (k : ℕ) → k < next → recordAt rows k .first ≤ i + 1
-  pub last : (p : ℕ) → p < length latest → getD latest p 0 ≡ lastNumber (hasPeriod p) (records next rows)
+  pub early : (k : ℕ) → k < next → ofKey (getD keys k 0) .first ≤ i + 1
+  pub places : length latest ≡ keyStep
+  pub last : (p : ℕ) → 1 ≤ p → p < keyStep → getD latest p 0 ≡ lastNumber (hasPeriod p) (passed next keys)
 
--- the record after these, if there is one, starts later
+-- the run after these, if there is one, starts later
 abbrev pub NextLater : List ℕ → ℕ → ℕ → ℕ → Type 0
-NextLater rows count i next = next < count → i + 1 < recordAt rows next .first
+NextLater keys count i next = next < count → i + 1 < ofKey (getD keys next 0) .first
+
+-- what is found of the piece between boundaries i and j: its unit if it is a block, 0 else, and for a block the last run with that unit that starts at or before it
+pub record Found (turns : ℕ) (w : List ℕ) (i j unit number : ℕ) : Type 0 where
+  pub is-unit : unit ≡ blockUnit turns (part w i j)
+  pub is-number : 1 ≤ unit → number ≡ latestNumber w unit i

@@ -51,7 +51,7 @@ pub part-edition-3 : partOutcome word-ababa 3 4 3 0 ≡ refused 12 0
 unfolding partOutcome badEdition?
 part-edition-3 = refl
 
-pub part-too-long-before-edition : partOutcome (replicate 4097 97) 3 1 1 0 ≡ refused 1 0
+pub part-too-long-before-edition : partOutcome (replicate 70001 97) 3 1 1 0 ≡ refused 1 0
 unfolding partOutcome
 part-too-long-before-edition = refl
 
@@ -72,13 +72,13 @@ pub part-of-empty : partOutcome [] 1 1 0 0 ≡ refused 6 0
 unfolding partOutcome badEdition?
 part-of-empty = refl
 
--- "4,097 passes": 1 comes before 6
-pub part-too-long-first : partOutcome (replicate 4097 97) 1 0 0 0 ≡ refused 1 0
+-- "70,001 passes": 1 comes before 6
+pub part-too-long-first : partOutcome (replicate 70001 97) 1 0 0 0 ≡ refused 1 0
 unfolding partOutcome badEdition?
 part-too-long-first = refl
 
--- "The limit is n = 4,096": so many are taken
-pub part-longest : partOutcome (replicate 4096 97) 1 0 0 0 ≡ refused 6 0
+-- "The limit of the library becomes 70,000": so many are taken
+pub part-longest : partOutcome (replicate 70000 97) 1 0 0 0 ≡ refused 6 0
 unfolding partOutcome badEdition?
 part-longest = refl
 

@@ -28,7 +28,7 @@ unfoldable pub description : ℕ → List ℕ → List ℕ
 description k s =
     smallestPeriod s ∷ length s / smallestPeriod s ∷ length s % smallestPeriod s ∷ flag (repetition? heldPeriod k s) ∷ []
 
--- "1: n above 4,096." "12, an edition other than 1 or 2" "6: first below 1, last above n or first above last" "7: fewer output places ... than the answer
+-- "1 now means above 70,000" "12, an edition other than 1 or 2" "6: first below 1, last above n or first above last" "7: fewer output places ... than the answer
 -- needs", which are one for each length from 1 to last − first + 1. One of these is met, or the part is described; so many places are lent.
 abbrev pub testedPart : {A : Type 0} → List ℕ → ℕ → ℕ → ℕ → ℕ → A → A → A → A → A → A
 testedPart w edition first last places long unknown outside few described =

@@ -2,7 +2,8 @@
 // that go over the lent symbols themselves, so that what they do besides stands once.
 ghost use mathlib.Core.Path.{_≡_};
 ghost use Prim.Native.Nat.{_-_, _≤_, _<_, _^_};
-ghost use lib.ListN.{length};
+ghost use lib.ListN.{length, getD};
+ghost use lib.Dec.{eqb};
 ghost use Rattle.periods.specs.Period.{part, smallestPeriod, unitsTable, blockUnit};
 ghost use Rattle.periods.specs.Square.{square?};
 ghost use Rattle.periods.specs.Edition.{Turns};
@@ -22,6 +23,17 @@ pub fn length(bytes: &[u8], codes: &[u16], wide: bool) -> usize
         return codes.len();
     }
     bytes.len()
+}
+
+// Whether the symbols at two places are equal.
+pub fn same(bytes: &[u8], codes: &[u16], wide: bool, i: usize, k: usize) -> bool
+    requires { ⌜ (i < length (wordOf wide (now bytes) (now codes))) × (k < length (wordOf wide (now bytes) (now codes))) ⌝ }
+    ensures { λ r. ⌜ r ≡ eqb (getD (wordOf wide (now (bytes .entry)) (now (codes .entry))) i 0) (getD (wordOf wide (now (bytes .entry)) (now (codes .entry))) k 0) ⌝ }
+{
+    if wide {
+        return codes[i] == codes[k];
+    }
+    bytes[i] == bytes[k]
 }
 
 // The units of the part between two boundaries, as inner::units.
@@ -73,7 +85,7 @@ pub fn is_square(bytes: &[u8], codes: &[u16], wide: bool, start: usize, end: usi
 }
 
 // The part call.
-pub(crate) fn part(
+pub fn part(
     bytes: &[u8],
     codes: &[u16],
     wide: bool,

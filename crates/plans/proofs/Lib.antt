@@ -1,4 +1,5 @@
 pub mod Judged
 pub mod CallClaims
 pub mod Determined
+pub mod OneLine
 pub mod Examples

@@ -138,16 +138,16 @@ most-ends-of-000 = refl
 
 -- ---- refusals of best split
 
--- "4,097 passes": 1 comes first, and both tables stay
-pub best-too-long-first : bestOutcome (replicate 4097 97) 1 0 [] [] ≡ refused 1 0
+-- "70,001 passes": 1 comes first, and both tables stay
+pub best-too-long-first : bestOutcome (replicate 70001 97) 1 0 [] [] ≡ refused 1 0
 unfolding bestOutcome chosenOutcome badEdition? turnsOf
 best-too-long-first = refl
 
-pub best-too-long-ends : bestEndsTable (replicate 4097 97) 1 1 (7 ∷ []) (9 ∷ []) ≡ 7 ∷ []
+pub best-too-long-ends : bestEndsTable (replicate 70001 97) 1 1 (7 ∷ []) (9 ∷ []) ≡ 7 ∷ []
 unfolding bestEndsTable chosenEnds badEdition? turnsOf
 best-too-long-ends = refl
 
-pub best-too-long-work : bestWork (replicate 4097 97) 1 1 (9 ∷ []) ≡ 9 ∷ []
+pub best-too-long-work : bestWork (replicate 70001 97) 1 1 (9 ∷ []) ≡ 9 ∷ []
 unfolding bestWork chosenWork badEdition? turnsOf
 best-too-long-work = refl
 
@@ -168,7 +168,7 @@ pub best-edition-3 : bestOutcome word-aaaa 3 3 [] [] ≡ refused 12 0
 unfolding bestOutcome chosenOutcome badEdition?
 best-edition-3 = refl
 
-pub best-too-long-before-edition : bestOutcome (replicate 4097 97) 3 1 [] [] ≡ refused 1 0
+pub best-too-long-before-edition : bestOutcome (replicate 70001 97) 3 1 [] [] ≡ refused 1 0
 unfolding bestOutcome chosenOutcome
 best-too-long-before-edition = refl
 

@@ -20,7 +20,7 @@ use Rattle.factorizer.specs.Best.{wholeCell, chosenOutcome, chosenEnds, chosenW
 abbrev pub lastCell : ℕ → List ℕ → ℕ → Cell
 lastCell k w choice = wholeCell (repetition? heldPeriod k) w choice
 
--- "1: n above 4,096." "12, an edition other than 1 or 2, directly after 1". One of these is met, or the rest decides.
+-- "1 now means above 70,000" "12, an edition other than 1 or 2, directly after 1". One of these is met, or the rest decides.
 abbrev pub told : {A : Type 0} → List ℕ → ℕ → A → A → A → A
 told w edition long unknown rest = cond (ltb limit (length w)) long (cond (badEdition? edition) unknown rest)
 

@@ -14,6 +14,7 @@ use Rattle.runs.specs.Table.{runsOf, stride}
 use Rattle.runs.proofs.Records.{length-records}
 use Rattle.runs.proofs.Listed.{runs-listed}
 use Rattle.runs.proofs.Few.{table-at-most}
+use Rattle.runs.specs.declared.Listing.the-variants.{Records}
 use Rattle.halves.specs.Scratch.{listed}
 use Rattle.halves.proofs.Records.{records-listed}
 use Rattle.factors.specs.Factorization.{choiceOf, Cell, unreachable, reached}
@@ -34,7 +35,7 @@ pub records-suffice : (w table : List ℕ) (count : ℕ) → RunsListed w table 
 records-suffice w table count L = omega (arith, length-records table count, ap length (L .2), table-at-most w)
 
 -- the table u that the runs were listed in, for which z was lent
-pub runs-stored : (w z u : List ℕ) (count : ℕ) → length w ≤ programLimit → length z ≡ stride * recordLimit → length u ≡ length z → count ≡ length (runsOf w) → u ≡ listed w z → RunsListed w u count
+pub runs-stored : (w z u : List ℕ) (count : ℕ) → length w ≤ programLimit → length z ≡ stride * recordLimit → length u ≡ length z → count ≡ length (runsOf w) → u ≡ listed Records w z → RunsListed w u count
 runs-stored w z u count h k l e f = (h, omega (arith, table-at-most w), records-listed w z u count (omega arith) e f)
 
 -- ---- the text

@@ -15,6 +15,7 @@ use crate::EDITION;
 use crate::PROGRAM_LIMIT;
 use answers::Counted;
 use finder::RECORDS;
+use runs::Listing;
 use runs::Record;
 
 // A block has two symbols at least.
@@ -143,6 +144,8 @@ pub(crate) fn write_all(w: &[u16], out: &mut [u8]) -> usize
 {
     let mut scratch = [0u32; halves::ROWS * (PROGRAM_LIMIT + 1)];
     let mut table = [0u32; runs::STRIDE * RECORDS];
-    let count = halves::inner::list(w, &mut scratch, &mut table);
+    let none = [0u8; 0];
+    let listing = Listing::Records;
+    let count = halves::inner::list(&none, w, true, listing, &mut scratch, &mut table);
     write_text(w, &table, count, out)
 }

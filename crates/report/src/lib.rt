@@ -32,6 +32,6 @@ pub fn report(w: &[u8], out: &mut [u8]) -> usize
     }
     let n = w.len();
     let mut wide = [0u16; PROGRAM_LIMIT];
-    widening::widen(w, &mut wide);
+    widening::inner::widen(w, &mut wide);
     inner::write_all(&wide[0..n], out)
 }

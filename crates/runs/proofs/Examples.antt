@@ -66,8 +66,8 @@ pub runs-of-empty : runsOutcome [] 0 ≡ accepted (0 ∷ [])
 unfolding runsOutcome runsOf rowsBefore
 runs-of-empty = refl
 
--- "4,097 passes"
-pub runs-too-long-first : runsOutcome (replicate 4097 97) 0 ≡ refused 1 0
+-- "70,001 passes"
+pub runs-too-long-first : runsOutcome (replicate 70001 97) 0 ≡ refused 1 0
 unfolding runsOutcome
 runs-too-long-first = refl
 

@@ -7,6 +7,7 @@ pub mod Entries
 pub mod Listed
 pub mod Rows
 pub mod Records
+pub mod Listings
 pub mod Number
 pub mod Few
 pub mod CallClaims

@@ -1,4 +1,5 @@
 pub mod Run
 pub mod Table
+pub mod Listing
 pub mod Number
 pub mod Calls

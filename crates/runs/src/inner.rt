@@ -5,8 +5,10 @@ ghost use Prim.Native.Nat.{_≤_, _<_, _+_, _-_, _*_, _/_, _%_, _^_};
 ghost use lib.ListN.{length, set};
 ghost use lib.Seq.{sets};
 ghost use Rattle.answers.specs.Outcome.{limit};
-ghost use Rattle.periods.specs.Period.{part, SmallestPeriod};
+ghost use Rattle.periods.specs.Period.{part, SmallestPeriod, heldPeriod};
 ghost use Rattle.runs.specs.Table.{rootOf, stride, numbersOf, recordAt};
+ghost use Rattle.runs.specs.Listing.{node?, keyOf};
+use crate::KEY_STEP;
 use crate::Record;
 use crate::STRIDE;
 
@@ -33,6 +35,33 @@ pub fn put(table: &mut [u32], i: usize, run: Record)
     store(table, at + 1, run.last);
     store(table, at + 2, run.period);
     store(table, at + 3, run.root);
+}
+
+// Whether a run has a white node at position x, where a repetition has so many turns at least.
+pub fn is_node(run: Record, turns: u32, x: u32) -> bool
+    ensures { λ r. ⌜ r ≡ node? heldPeriod turns x run ⌝ }
+{
+    let unit = run.period as usize;
+    if periods::UNIT_MEMORY < unit {
+        return false;
+    }
+    let from = run.first as usize + turns as usize * unit;
+    if x as usize + 1 < from {
+        return false;
+    }
+    x <= run.last
+}
+
+// The key of a run with period p that starts after boundary a.
+pub fn key(a: usize, p: usize) -> u32
+    requires { ⌜ a < limit ⌝ }
+    ensures { λ r. ⌜ r ≡ keyOf (a + 1) p ⌝ }
+{
+    let first = KEY_STEP * (a + 1);
+    if periods::UNIT_MEMORY < p {
+        return first as u32;
+    }
+    (first + p) as u32
 }
 
 // Record number i of a table, from 0. This is the one place where a record's numbers are read.

@@ -4,6 +4,7 @@ ghost use Prim.Native.Nat.{_+_, _*_, _≤_, _<_};
 ghost use lib.ListN.{length};
 ghost use Rattle.answers.specs.Outcome.{limit};
 ghost use Rattle.periods.specs.Square.{square?};
+ghost use Rattle.periods.specs.Width.{wordOf};
 ghost use Rattle.runs.specs.Table.{runsOf, stride};
 ghost use Rattle.factors.specs.Factorization.{choiceOf};
 ghost use Rattle.factors.specs.Table.{rows, filled};
@@ -97,13 +98,22 @@ fn take(
 
 // Takes boundary e: every run in the list that is not over at e, and then the best start of all. Gives
 // how many runs stay in the list.
-fn visit(w: &[u16], runs: &[u32], choice: u32, e: usize, lives: usize, work: &mut [u32]) -> usize
-    requires { ⌜ Workable (now w) (now work) × RunsIn (now w) (now runs) × (1 ≤ e) × (e ≤ length (now w)) × (lives ≤ length (now w)) ⌝ }
-    requires { ⌜ Ready (choiceOf choice) (now w) (now runs) (e + 1) e lives (now work) ⌝ }
-    ensures { λ r. ⌜ (r ≤ lives) × Ready (choiceOf choice) (now (w .entry)) (now (runs .entry)) (e + 1) (e + 1) r (now (work .exit)) ⌝ }
-    ensures { λ _. ⌜ RestKept (length (now (w .entry))) (now (work .entry)) (now (work .exit)) ⌝ }
+fn visit(
+    bytes: &[u8],
+    codes: &[u16],
+    wide: bool,
+    runs: &[u32],
+    choice: u32,
+    e: usize,
+    lives: usize,
+    work: &mut [u32],
+) -> usize
+    requires { ⌜ Workable (wordOf wide (now bytes) (now codes)) (now work) × RunsIn (wordOf wide (now bytes) (now codes)) (now runs) × (1 ≤ e) × (e ≤ length (wordOf wide (now bytes) (now codes))) × (lives ≤ length (wordOf wide (now bytes) (now codes))) ⌝ }
+    requires { ⌜ Ready (choiceOf choice) (wordOf wide (now bytes) (now codes)) (now runs) (e + 1) e lives (now work) ⌝ }
+    ensures { λ r. ⌜ (r ≤ lives) × Ready (choiceOf choice) (wordOf wide (now (bytes .entry)) (now (codes .entry))) (now (runs .entry)) (e + 1) (e + 1) r (now (work .exit)) ⌝ }
+    ensures { λ _. ⌜ RestKept (length (wordOf wide (now (bytes .entry)) (now (codes .entry)))) (now (work .entry)) (now (work .exit)) ⌝ }
 {
-    let n = w.len();
+    let n = periods::either::length(bytes, codes, wide);
     let low = 3 * (n + 1);
     // boundary e, of which nothing is known yet, stands for no start
     let mut best = e;
@@ -158,11 +168,19 @@ fn admit(
 // Fills the working table: the best size of each prefix length, and the previous boundary that it came
 // from. Boundaries in rising order; each takes the runs that it lies in. Time: a step for each run and
 // each boundary in it.
-pub fn fill(w: &[u16], runs: &[u32], count: usize, choice: u32, work: &mut [u32])
-    requires { ⌜ Workable (now w) (now work) × RunsIn (now w) (now runs) × (count ≡ length (runsOf (now w))) ⌝ }
-    ensures { λ _. ⌜ now (work .exit) ≡ filled (choiceOf choice) (piece? square? (now (w .entry))) (length (now (w .entry))) (now (work .entry)) ⌝ }
+pub fn fill(
+    bytes: &[u8],
+    codes: &[u16],
+    wide: bool,
+    runs: &[u32],
+    count: usize,
+    choice: u32,
+    work: &mut [u32],
+)
+    requires { ⌜ Workable (wordOf wide (now bytes) (now codes)) (now work) × RunsIn (wordOf wide (now bytes) (now codes)) (now runs) × (count ≡ length (runsOf (wordOf wide (now bytes) (now codes)))) ⌝ }
+    ensures { λ _. ⌜ now (work .exit) ≡ filled (choiceOf choice) (piece? square? (wordOf wide (now (bytes .entry)) (now (codes .entry)))) (length (wordOf wide (now (bytes .entry)) (now (codes .entry)))) (now (work .entry)) ⌝ }
 {
-    let n = w.len();
+    let n = periods::either::length(bytes, codes, wide);
     let row = n + 1;
     let two = row + row;
     factors::inner::start(work, n);
@@ -174,7 +192,7 @@ pub fn fill(w: &[u16], runs: &[u32], count: usize, choice: u32, work: &mut [u32]
         let upto = admit(work, runs, n, count, e, next, lives);
         lives += upto - next;
         next = upto;
-        lives = visit(w, runs, choice, e, lives, work);
+        lives = visit(bytes, codes, wide, runs, choice, e, lives, work);
         e += 1;
     }
     let four = two + two;

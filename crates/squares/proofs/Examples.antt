@@ -68,21 +68,21 @@ pub examples-hold : T (all examples)
 unfolding squaresOutcome squaresEnds squaresWork chosenOutcome chosenEnds chosenWork cell bestEnds sizes square?
 examples-hold = tt
 
--- "4,097 passes": 1 comes first, and both tables stay
-pub squares-too-long-first : squaresOutcome (replicate 4097 97) 0 [] [] ≡ refused 1 0
+-- "70,001 passes": 1 comes first, and both tables stay
+pub squares-too-long-first : squaresOutcome (replicate 70001 97) 0 [] [] ≡ refused 1 0
 unfolding squaresOutcome
 squares-too-long-first = refl
 
-pub squares-too-long-ends : squaresEnds (replicate 4097 97) 1 (7 ∷ []) (9 ∷ []) ≡ 7 ∷ []
+pub squares-too-long-ends : squaresEnds (replicate 70001 97) 1 (7 ∷ []) (9 ∷ []) ≡ 7 ∷ []
 unfolding squaresEnds
 squares-too-long-ends = refl
 
-pub squares-too-long-work : squaresWork (replicate 4097 97) 1 (9 ∷ []) ≡ 9 ∷ []
+pub squares-too-long-work : squaresWork (replicate 70001 97) 1 (9 ∷ []) ≡ 9 ∷ []
 unfolding squaresWork
 squares-too-long-work = refl
 
 -- the longest word that is taken
-pub squares-longest : squaresOutcome (replicate 4096 97) 1 [] [] ≡ refused 9 0
+pub squares-longest : squaresOutcome (replicate 70000 97) 1 [] [] ≡ refused 9 0
 unfolding squaresOutcome chosenOutcome
 squares-longest = refl
 
@@ -190,6 +190,6 @@ pub judged-f3 : squaresJudgedOutcome word-abaababaabbbaabbbb (6 ∷ 16 ∷ 18 �
 unfolding squaresJudgedOutcome verdict square?
 judged-f3 = refl
 
-pub judged-too-long : squaresJudgedOutcome (replicate 4097 97) [] ≡ refused 1 0
+pub judged-too-long : squaresJudgedOutcome (replicate 70001 97) [] ≡ refused 1 0
 unfolding squaresJudgedOutcome
 judged-too-long = refl

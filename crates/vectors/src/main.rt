@@ -133,7 +133,7 @@ fn named_near(name: &[u8], w: &[u8]) {
 }
 
 fn near_in(w: &[u8], table: &mut [u32]) {
-    outcome(bytes::runs(w, table));
+    outcome(run_table::runs(w, table));
     if table.len() <= 64 {
         list(b"", table);
     } else {
@@ -252,7 +252,7 @@ fn path_judged(w: &[u8], edition: u32, numbers: &[u32]) {
         b"judge path,",
         w,
         edition,
-        bytes::judge_path(w, edition, numbers),
+        paths::judge_path(w, edition, numbers),
     );
     list(b" numbers", numbers);
 }
@@ -291,7 +291,7 @@ fn best_in(w: &[u8], edition: u32, choice: u32, ends: &mut [u32], work: &mut [u3
     text(w);
     field(edition);
     field(choice);
-    outcome(bytes::best_split(w, edition, choice, ends, work));
+    outcome(repetitions::best_split(w, edition, choice, ends, work));
     list(b" ends", ends);
     list(b" work", work);
 }
@@ -338,7 +338,7 @@ fn runs_in(w: &[u8], places: u32, table: &mut [u32]) {
     text(b"runs,");
     text(w);
     field(places);
-    outcome(bytes::runs(w, table));
+    outcome(run_table::runs(w, table));
     list(b"", table);
 }
 
@@ -347,7 +347,7 @@ fn named_runs(name: &[u8], w: &[u8]) {
     let mut table = [7u32; 5];
     text(b"runs,");
     text(name);
-    outcome(bytes::runs(w, &mut table));
+    outcome(run_table::runs(w, &mut table));
     list(b"", &table);
 }
 
@@ -359,7 +359,7 @@ fn nodes_in(w: &[u8], edition: u32, places: u32, numbers: &[u32], table: &mut [u
         field(edition);
         field(position);
         field(places);
-        outcome(bytes::nodes(w, edition, position, table));
+        outcome(nodes::nodes(w, edition, position, table));
         list(b"", table);
     }
 }
@@ -369,7 +369,7 @@ fn path_in(w: &[u8], edition: u32, ends: &[u32], table: &mut [u32]) {
         b"path,",
         w,
         edition,
-        bytes::path_of_split(w, edition, ends, table),
+        paths::path_of_split(w, edition, ends, table),
     );
     list(b" ends", ends);
     list(b" runs", table);
@@ -419,7 +419,7 @@ fn long_fewest(w: &[u8], edition: u32) {
         b"4096 equal",
         edition,
         b", fewest",
-        bytes::best_split(w, edition, 1, &mut ends, &mut work),
+        repetitions::best_split(w, edition, 1, &mut ends, &mut work),
     );
     part(b" ends", &ends, 0, 3);
 }
@@ -432,7 +432,7 @@ fn long_most(w: &[u8], edition: u32, from: usize, to: usize) {
         b"4096 equal",
         edition,
         b", most",
-        bytes::best_split(w, edition, 2, &mut ends, &mut work),
+        repetitions::best_split(w, edition, 2, &mut ends, &mut work),
     );
     part(b" ends", &ends, 0, 3);
     part(b" last ends", &ends, from, to);
@@ -445,17 +445,17 @@ fn long_refused(w: &[u8], edition: u32, ends: &mut [u32]) {
         b"4096 equal",
         edition,
         b", one place too few",
-        bytes::best_split(w, edition, 2, ends, &mut work),
+        repetitions::best_split(w, edition, 2, ends, &mut work),
     );
     text(b"\n");
 }
 
 // One symbol more: refusal 1 comes first in every call, before 12 too.
 fn too_long() {
-    let w = [97u8; 4097];
+    let w = [97u8; 70001];
     let mut table = [7u32; 4];
-    text(b"4097 equal, runs");
-    outcome(bytes::runs(&w, &mut table));
+    text(b"70001 equal, runs");
+    outcome(run_table::runs(&w, &mut table));
     list(b"", &table);
     too_long_in(&w, 1);
     too_long_in(&w, 2);
@@ -470,12 +470,12 @@ fn too_long_in(w: &[u8], edition: u32) {
 }
 
 fn long_splits(w: &[u8], edition: u32, table: &mut [u32], ends: &mut [u32]) {
-    over(edition, b", nodes", bytes::nodes(w, edition, 0, table));
+    over(edition, b", nodes", nodes::nodes(w, edition, 0, table));
     list(b"", table);
     over(
         edition,
         b", best",
-        bytes::best_split(w, edition, 0, ends, table),
+        repetitions::best_split(w, edition, 0, ends, table),
     );
     list(b"", table);
     over(
@@ -490,19 +490,19 @@ fn long_paths(w: &[u8], edition: u32, table: &mut [u32]) {
     over(
         edition,
         b", path",
-        bytes::path_of_split(w, edition, &[0], table),
+        paths::path_of_split(w, edition, &[0], table),
     );
     list(b"", table);
     over(
         edition,
         b", judge path",
-        bytes::judge_path(w, edition, &[0]),
+        paths::judge_path(w, edition, &[0]),
     );
     text(b"\n");
 }
 
 fn over(edition: u32, name: &[u8], answer: Counted) {
-    named(b"4097 equal", edition, name, answer);
+    named(b"70001 equal", edition, name, answer);
 }
 
 // The word, the edition, a name and the answer.
@@ -557,8 +557,8 @@ fn sizes_in(w: &[u8], edition: u32) {
         b"",
         edition,
         b",fewest",
-        bytes::best_split(w, edition, 1, &mut ends, &mut work),
+        repetitions::best_split(w, edition, 1, &mut ends, &mut work),
     );
     text(b",most");
-    outcome(bytes::best_split(w, edition, 2, &mut ends, &mut work));
+    outcome(repetitions::best_split(w, edition, 2, &mut ends, &mut work));
 }

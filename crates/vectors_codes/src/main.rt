@@ -62,7 +62,7 @@ fn pairs() {
 
 // 1 before 12; 12, and 8 of best squares; then 7, 9 and 10.
 fn refusals() {
-    let over = [256u16; 4097];
+    let over = [256u16; 70001];
     one_place(&over, 3, 3);
     one_place(&WORD, 3, 3);
     one_place(&WORD, 1, 1);
@@ -272,7 +272,7 @@ fn block<'a>(a: &'a [u16], b: &'a [u16], edition: u32, work: &mut [u32]) {
 }
 
 fn length(w: &[u16]) -> u32 {
-    (w.len() % 65536) as u32
+    (w.len() % 1000000) as u32
 }
 
 fn asked(call: &[u8], w: &[u16], edition: u32) {

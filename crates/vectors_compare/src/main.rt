@@ -97,12 +97,12 @@ fn symbols() {
 // The limit, and refusal 1 for either word, which comes before 12.
 fn limits() {
     let longest = [97u8; 4096];
-    let over = [97u8; 4097];
+    let over = [97u8; 70001];
     let mut work = [7u32; 16389];
     brief(b"4096 equal,4096 equal,1", &longest, &longest, 1, &mut work);
     brief(b"aabb,4096 equal,2", b"aabb", &longest, 2, &mut work);
-    brief(b"4097 equal,aa,3", &over, b"aa", 3, &mut work);
-    brief(b"aa,4097 equal,3", b"aa", &over, 3, &mut work);
+    brief(b"70001 equal,aa,3", &over, b"aa", 3, &mut work);
+    brief(b"aa,70001 equal,3", b"aa", &over, 3, &mut work);
 }
 
 // Two words, an edition, and how many places are lent; what stands for the second word is counted
@@ -145,7 +145,7 @@ fn lent<'a>(row: &[u8], a: &'a [u8], b: &'a [u8], edition: u32, places: u32) {
 fn which(name: &[u8], a: &[u8], b: &[u8], edition: u32, work: &mut [u32]) {
     text(b"which,");
     text(name);
-    show::outcome(bytes::which_first(a, b, edition, work));
+    show::outcome(comparison::which_first(a, b, edition, work));
     show::numbers(COMMA, work);
     text(b"\n");
 }
@@ -154,7 +154,7 @@ fn block<'a>(name: &[u8], a: &'a [u8], b: &'a [u8], edition: u32, work: &mut [u3
     text(b"block,");
     text(name);
     text(b",");
-    text(bytes::first_block(a, b, edition, work));
+    text(comparison::first_block(a, b, edition, work));
     show::numbers(COMMA, work);
     text(b"\n");
 }
@@ -163,11 +163,11 @@ fn block<'a>(name: &[u8], a: &'a [u8], b: &'a [u8], edition: u32, work: &mut [u3
 fn brief<'a>(name: &[u8], a: &'a [u8], b: &'a [u8], edition: u32, work: &mut [u32]) {
     text(b"which,");
     text(name);
-    show::outcome(bytes::which_first(a, b, edition, work));
+    show::outcome(comparison::which_first(a, b, edition, work));
     last_places(work);
     text(b"block,");
     text(name);
-    let part = bytes::first_block(a, b, edition, work);
+    let part = comparison::first_block(a, b, edition, work);
     show::field((part.len() % 65536) as u32);
     last_places(work);
 }

@@ -78,14 +78,14 @@ fn limits() {
     let most = [97u8; 4096];
     let mut ends = [0u32; 2048];
     let mut work = [0u32; 16388];
-    bytes::best_split(&most, 1, 2, &mut ends, &mut work);
+    repetitions::best_split(&most, 1, 2, &mut ends, &mut work);
     let mut out = [46u8; 124929];
     text(b"page,4096 equal, blocks of 2,1");
-    show::outcome(bytes::write_page(&most, 1, &ends, &mut out));
+    show::outcome(pages::write_page(&most, 1, &ends, &mut out));
     last_lines(&out, 124806);
-    let over = [97u8; 4097];
-    text(b"page,4097 equal,3");
-    show::outcome(bytes::write_page(&over, 3, &ends, &mut out));
+    let over = [97u8; 70001];
+    text(b"page,70001 equal,3");
+    show::outcome(pages::write_page(&over, 3, &ends, &mut out));
     text(b"\n");
 }
 
@@ -148,7 +148,7 @@ fn bytes(name: &[u8], w: &[u8], ends: &[u32]) {
 }
 
 fn page(w: &[u8], edition: u32, ends: &[u32], out: &mut [u8]) {
-    show::outcome(bytes::write_page(w, edition, ends, out));
+    show::outcome(pages::write_page(w, edition, ends, out));
     text(b"\n");
     text(out);
     text(b"\n");

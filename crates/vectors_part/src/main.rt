@@ -63,11 +63,11 @@ fn limits() {
     long(b"4096 equal", &most, 1, 1, 4096, 4095);
     long(b"4096 equal", &most, 1, 1, 4097, 4097);
     long(b"4096 equal", &most, 2, 1, 4096, 4097);
-    let over = [97u8; 4097];
-    long(b"4097 equal", &over, 1, 1, 1, 4097);
-    long(b"4097 equal", &over, 1, 0, 0, 4097);
-    long(b"4097 equal", &over, 0, 1, 1, 4097);
-    long(b"4097 equal", &over, 3, 0, 0, 0);
+    let over = [97u8; 70001];
+    long(b"70001 equal", &over, 1, 1, 1, 4097);
+    long(b"70001 equal", &over, 1, 0, 0, 4097);
+    long(b"70001 equal", &over, 0, 1, 1, 4097);
+    long(b"70001 equal", &over, 3, 0, 0, 0);
 }
 
 fn rows(table: &[u8]) {

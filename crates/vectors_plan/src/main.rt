@@ -19,8 +19,9 @@ use show::text;
 const SPACE: u8 = 32;
 
 // Tables of cases. To write, a row has the length, the places and the ends: plans that are written,
-// and then refusals. To read, a row has the places, in one digit, and the line: plans that are read;
-// bytes that are no line; lines that are no plan, and tables that are too short.
+// and then refusals; the same with long lines. To read, a row has the places, in one digit, and the
+// line: plans that are read; bytes that are no line; lines that are no plan, and tables that are too
+// short; the same with long lines.
 fn main() {
     rows(
         b",0,15|,8,40,8|,8,25,2,8|,8,26,2,8|,4096,25,2048,4096|,5,40,1,2,3,4,5|\
@@ -28,6 +29,10 @@ fn main() {
         ,8,40,0,8|,0,40,0|,8,40,2,2,8|,8,40,5,4,9|,8,40,2,9|,8,40,4294967295|,8,0,2,2,8|\
         ,8,40|,8,40,2,7|,8,0,2,7|\
         ,0,14|,0,0|,8,24,2,8|,5,39,1,2,3,4,5|",
+    );
+    rows(
+        b",4097,26,4097|,4097,25,4097|,65536,33,2,65536|,70000,40,2,70000|,70000,32,2,70000|\
+        ,70000,40,70001|,70000,40,2|,70001,40,70001|,70001,0,3,2|",
     );
     rows(
         b"0plan,0000,0000\n|\
@@ -73,6 +78,35 @@ fn main() {
         0plan,0008,0002,0002,0007\n|\
         1plan,0008,0002,0002,0008\n|\
         0plan,0008,0001,0008\n|",
+    );
+    rows(
+        b"1long,004097,000001,004097\n|\
+        2long,065536,000002,000002,065536\n|\
+        4long,070000,000002,000002,070000\n|\
+        4long,004096,000001,004096\n|\
+        0long,004096,000001,009999\n|\
+        4long,000000,000000\n|\
+        4long,04097,00001,04097\n|\
+        4long,4097,0001,4097\n|\
+        4plan,004097,000001,004097\n|\
+        4lonG,004097,000001,004097\n|\
+        4long,00409x,000001,004097\n|\
+        4long,004097,00000:,004097\n|\
+        4long,004097;000001,004097\n|\
+        4long,004097,000001;004097\n|\
+        4long,004097,000002,004097\n|\
+        4long,004097,000001,004097|\
+        4long,004097,000001,004097\n\n|",
+    );
+    rows(
+        b"4long,070001,000001,070001\n|\
+        0long,999999,000002,000003,000002\n|\
+        4plan,9999,0001,9999\n|\
+        4long,004097,000002,000002,000002\n|\
+        4long,070000,000001,070001\n|\
+        4long,004097,000000\n|\
+        0long,070000,000001,000002\n|\
+        1long,070000,000002,000002,070000\n|",
     );
     let line = b"plan,0008,0002,0002,0008\n";
     cut_everywhere(line);

@@ -105,14 +105,14 @@ fn generated() {
 fn limits() {
     let longest = [97u8; 4096];
     let odd = [97u8; 4095];
-    let over = [97u8; 4097];
+    let over = [97u8; 70001];
     let mut ends = [7u32; 2049];
     let mut work = [7u32; 16389];
     brief(b"4096 equal", &longest, 1, &mut ends, &mut work);
     brief(b"4096 equal", &longest, 2, &mut ends, &mut work);
     brief(b"4095 equal", &odd, 2, &mut ends, &mut work);
-    brief(b"4097 equal", &over, 1, &mut ends, &mut work);
-    brief(b"4097 equal", &over, 3, &mut ends, &mut work);
+    brief(b"70001 equal", &over, 1, &mut ends, &mut work);
+    brief(b"70001 equal", &over, 3, &mut ends, &mut work);
     long_verdicts(&longest, &over);
 }
 
@@ -121,8 +121,8 @@ fn long_verdicts(longest: &[u8], over: &[u8]) {
     verdict(b"4096 equal", longest, &[2048u32, 4096]);
     verdict(b"4096 equal", longest, &[4095u32, 4096]);
     verdict(b"4096 equal", longest, &[4096u32, 4097]);
-    verdict(b"4097 equal", over, &[0u32]);
-    verdict(b"4097 equal", over, &[4097u32]);
+    verdict(b"70001 equal", over, &[0u32]);
+    verdict(b"70001 equal", over, &[4097u32]);
 }
 
 fn rows(call: Call, table: &[u8]) {
@@ -189,7 +189,7 @@ fn lent(w: &[u8], choice: u32, places: u32, space: u32) {
 }
 
 fn answered(w: &[u8], choice: u32, ends: &mut [u32], work: &mut [u32]) {
-    outcome(bytes::best_squares(w, choice, ends, work));
+    outcome(squares::best_squares(w, choice, ends, work));
     list(b" ends", ends);
     list(b" work", work);
 }
@@ -226,7 +226,7 @@ fn brief(name: &[u8], w: &[u8], choice: u32, ends: &mut [u32], work: &mut [u32])
     text(b"best,");
     text(name);
     field(choice);
-    outcome(bytes::best_squares(w, choice, ends, work));
+    outcome(squares::best_squares(w, choice, ends, work));
     part(b" ends", ends, 0, 3);
     part(b" last ends", ends, 2046, 2049);
     part(b" sizes", work, 4092, 4098);

@@ -3,11 +3,14 @@
 
 pub type Answer<T> = Result<T, (u32, u32)>;
 
-const LIMIT: usize = 4096;
+const LIMIT: usize = 70_000;
+/// Up to so many symbols a plan line has four digits a number, above six.
+const LINE_LIMIT: usize = 4096;
 /// The longest unit of a block.
 const UNIT_MEMORY: usize = 256;
-/// Words of at most so many symbols get small arrays.
+/// Words of at most so many symbols get small arrays, and of at most so many middling ones.
 const SHORT: usize = 64;
+const MIDDLE: usize = 4096;
 /// Parts of at most so many symbols are not halved.
 const LEAF: usize = 16;
 /// The rows that the finder of runs works in.
@@ -33,6 +36,28 @@ impl Code for u8 {
 impl Code for u16 {
     const SHOWN: usize = 4;
     const DIGITS: usize = 4;
+}
+
+/// A call of its own, so that what it has on the stack is not its caller's.
+#[inline(never)]
+fn apart<T>(body: impl FnOnce() -> T) -> T {
+    body()
+}
+
+/// Has the arrays of a body of the size that words of the length need.
+macro_rules! in_frame {
+    ($n:expr, $length:ident, $body:expr) => {
+        if $n <= SHORT {
+            const $length: usize = SHORT;
+            $body
+        } else if $n <= MIDDLE {
+            const $length: usize = MIDDLE;
+            apart(|| $body)
+        } else {
+            const $length: usize = LIMIT;
+            apart(|| $body)
+        }
+    };
 }
 
 /// The whole turns that a block of an edition has at least.
@@ -307,10 +332,7 @@ pub fn runs<C: Code>(w: &[C], table: &mut [u32]) -> Answer<u32> {
     if LIMIT < w.len() {
         return Err((1, 0));
     }
-    if w.len() <= SHORT {
-        return listed(w, &mut [0; ROWS * (SHORT + 1)], table);
-    }
-    listed(w, &mut [0; ROWS * (LIMIT + 1)], table)
+    in_frame!(w.len(), N, listed(w, &mut [0; ROWS * (N + 1)], table))
 }
 
 /// The numbers of the records with a white node at position x.
@@ -354,12 +376,10 @@ pub fn nodes<C: Code>(w: &[C], edition: u32, position: u32, table: &mut [u32]) -
     if position < 1 || w.len() < x {
         return Err((6, 0));
     }
-    if w.len() <= SHORT {
-        let mut scratch = [0; ROWS * (SHORT + 1)];
-        return nodes_in(w, turns, x, &mut scratch, &mut [0; STRIDE * SHORT], table);
-    }
-    let mut scratch = [0; ROWS * (LIMIT + 1)];
-    nodes_in(w, turns, x, &mut scratch, &mut [0; STRIDE * LIMIT], table)
+    in_frame!(w.len(), N, {
+        let mut scratch = [0; ROWS * (N + 1)];
+        nodes_in(w, turns, x, &mut scratch, &mut [0; STRIDE * N], table)
+    })
 }
 
 fn offer(work: &mut [u32], choice: u32, at: usize, back: usize, size: u32, j: u32) {
@@ -652,11 +672,11 @@ pub fn best_squares<C: Code>(
         return Err((1, 0));
     }
     choosable(w.len(), choice, work)?;
-    if w.len() <= SHORT {
-        fill_squares(w, choice, &mut [0; STRIDE * SHORT], work);
-    } else {
-        fill_squares(w, choice, &mut [0; STRIDE * LIMIT], work);
-    }
+    in_frame!(
+        w.len(),
+        N,
+        fill_squares(w, choice, &mut [0; STRIDE * N], work)
+    );
     finish(w.len(), ends, work)
 }
 
@@ -768,45 +788,6 @@ fn judge<C: Code>(w: &[C], ends: &[u32], mut fits: impl FnMut(&[C]) -> bool) -> 
     Ok(ends.len() as u32)
 }
 
-/// The unit of a part, by the units of its leading parts.
-fn unit_of<C: Code>(part: &[C], unit_table: &mut [u32]) -> u32 {
-    units(part, unit_table);
-    unit_table[part.len() - 1]
-}
-
-fn blocks_in<C: Code>(w: &[C], turns: usize, ends: &[u32], unit_table: &mut [u32]) -> Answer<u32> {
-    judge(w, ends, |part| {
-        is_block_of(turns, part.len(), unit_of(part, unit_table) as usize)
-    })
-}
-
-/// The verdict of judge a split, of a long word in time linear in its length.
-fn judge_blocks<C: Code>(w: &[C], edition: u32, ends: &[u32]) -> Answer<u32> {
-    if w.len() <= SHORT {
-        return judge_split(w, edition, ends);
-    }
-    if LIMIT < w.len() {
-        return Err((1, 0));
-    }
-    blocks_in(w, turns_of(edition)?, ends, &mut [0; LIMIT])
-}
-
-fn units_in<C: Code>(w: &[C], ends: &[u32], unit_table: &mut [u32], table: &mut [u32]) {
-    let mut before = 0;
-    for (k, &end) in ends.iter().enumerate() {
-        let end = end as usize;
-        table[k] = unit_of(&w[before..end], unit_table);
-        before = end;
-    }
-}
-
-fn block_units<C: Code>(w: &[C], ends: &[u32], table: &mut [u32]) {
-    if w.len() <= SHORT {
-        return units_in(w, ends, &mut [0; SHORT], table);
-    }
-    units_in(w, ends, &mut [0; LIMIT], table);
-}
-
 /// Goes on over the records that start at or before a boundary: of each unit the number of the latest
 /// is kept.
 fn note(records: &[u32], before: usize, from: usize, latest: &mut [u32]) -> usize {
@@ -821,33 +802,26 @@ fn note(records: &[u32], before: usize, from: usize, latest: &mut [u32]) -> usiz
     number
 }
 
-fn numbers_in<C: Code>(
+/// Goes over the blocks of a split with the unit and the run number of each: the run is the latest of
+/// the unit that starts at or before the block.
+fn each_block<C: Code>(
     w: &[C],
     ends: &[u32],
     scratch: &mut [u32],
     records: &mut [u32],
-    table: &mut [u32],
+    mut put: impl FnMut(usize, &[C], usize, u32),
 ) {
     let total = list(w, scratch, records);
     let (records, latest) = (&records[..STRIDE * total], &mut scratch[..w.len() + 1]);
     latest.fill(0);
     let (mut before, mut noted) = (0, 0);
     for (k, &end) in ends.iter().enumerate() {
+        let block = &w[before..end as usize];
+        let unit = block_unit(block, 2);
         noted = note(records, before, noted, latest);
-        table[k] = latest[table[k] as usize];
+        put(k, block, unit, latest[unit]);
         before = end as usize;
     }
-}
-
-/// Puts the run numbers in the places of the units: the run of a block is the latest of its unit that
-/// starts at or before it.
-fn number_blocks<C: Code>(w: &[C], ends: &[u32], table: &mut [u32]) {
-    if w.len() <= SHORT {
-        let mut scratch = [0; ROWS * (SHORT + 1)];
-        return numbers_in(w, ends, &mut scratch, &mut [0; STRIDE * SHORT], table);
-    }
-    let mut scratch = [0; ROWS * (LIMIT + 1)];
-    numbers_in(w, ends, &mut scratch, &mut [0; STRIDE * LIMIT], table);
 }
 
 pub fn path_of_split<C: Code>(
@@ -856,12 +830,15 @@ pub fn path_of_split<C: Code>(
     ends: &[u32],
     table: &mut [u32],
 ) -> Answer<u32> {
-    let blocks = judge_blocks(w, edition, ends)?;
+    let blocks = judge_split(w, edition, ends)?;
     if table.len() < ends.len() {
         return Err((7, 0));
     }
-    block_units(w, ends, table);
-    number_blocks(w, ends, table);
+    in_frame!(w.len(), N, {
+        let mut scratch = [0; ROWS * (N + 1)];
+        let put = |k: usize, _: &[C], _, number| table[k] = number;
+        each_block(w, ends, &mut scratch, &mut [0; STRIDE * N], put);
+    });
     Ok(blocks)
 }
 
@@ -875,7 +852,7 @@ fn path_in<C: Code>(
     let n = w.len();
     let total = list(w, scratch, records);
     let records = &records[..STRIDE * total];
-    let (latest, unit_table) = scratch.split_at_mut(n + 1);
+    let latest = &mut scratch[..n + 1];
     latest.fill(0);
     let (mut before, mut noted, mut blocks) = (0, 0, 0);
     for pair in numbers.chunks_exact(2) {
@@ -885,8 +862,8 @@ fn path_in<C: Code>(
             return Err((3, blocks));
         }
         noted = note(records, before, noted, latest);
-        let unit = unit_of(&w[before..end], unit_table) as usize;
-        if !is_block_of(turns, end - before, unit) || latest[unit] != pair[0] {
+        let unit = block_unit(&w[before..end], turns);
+        if unit == 0 || latest[unit] != pair[0] {
             return Err((4, blocks));
         }
         before = end;
@@ -905,12 +882,10 @@ pub fn judge_path<C: Code>(w: &[C], edition: u32, numbers: &[u32]) -> Answer<u32
     if numbers.len() % 2 == 1 {
         return Err((10, 0));
     }
-    if w.len() <= SHORT {
-        let mut scratch = [0; ROWS * (SHORT + 1)];
-        return path_in(w, turns, numbers, &mut scratch, &mut [0; STRIDE * SHORT]);
-    }
-    let mut scratch = [0; ROWS * (LIMIT + 1)];
-    path_in(w, turns, numbers, &mut scratch, &mut [0; STRIDE * LIMIT])
+    in_frame!(w.len(), N, {
+        let mut scratch = [0; ROWS * (N + 1)];
+        path_in(w, turns, numbers, &mut scratch, &mut [0; STRIDE * N])
+    })
 }
 
 fn put_column(out: &mut [u8], x: usize) {
@@ -946,34 +921,43 @@ fn put_symbols<C: Code>(out: &mut [u8], unit: &[C]) {
 }
 
 pub fn write_page<C: Code>(w: &[C], edition: u32, ends: &[u32], out: &mut [u8]) -> Answer<u32> {
-    judge_blocks(w, edition, ends)?;
+    judge_split(w, edition, ends)?;
     let bytes = LINE * ends.len();
     if out.len() < bytes {
         return Err((7, 0));
     }
-    let mut units = [0; LIMIT / 2];
-    block_units(w, ends, &mut units);
-    let mut numbers = units;
-    number_blocks(w, ends, &mut numbers);
-    let mut before = 0;
-    for (k, line) in out[..bytes].chunks_exact_mut(LINE).enumerate() {
-        let end = ends[k] as usize;
-        let block = &w[before..end];
-        let p = units[k] as usize;
-        let (turns, rest) = (block.len() / p, block.len() % p);
-        let columns = [k + 1, before + 1, end, p, turns, rest, numbers[k] as usize];
-        for (i, x) in columns.into_iter().enumerate() {
-            put_column(&mut line[COLUMN * i..], x);
-        }
-        put_symbols(&mut line[COLUMN * columns.len()..], &block[..p]);
-        line[LINE - 1] = b'\n';
-        before = end;
-    }
+    in_frame!(w.len(), N, {
+        let mut scratch = [0; ROWS * (N + 1)];
+        let mut first = 1;
+        let put = |k: usize, block: &[C], unit, number| {
+            put_line_of(&mut out[LINE * k..][..LINE], k, first, block, unit, number);
+            first += block.len();
+        };
+        each_block(w, ends, &mut scratch, &mut [0; STRIDE * N], put);
+    });
     Ok(bytes as u32)
 }
 
-fn judge_ends(n: u32, ends: impl Iterator<Item = u32>) -> Answer<u32> {
-    if LIMIT < n as usize {
+fn put_line_of<C: Code>(
+    line: &mut [u8],
+    k: usize,
+    first: usize,
+    block: &[C],
+    unit: usize,
+    number: u32,
+) {
+    let last = first + block.len() - 1;
+    let (turns, rest) = (block.len() / unit, block.len() % unit);
+    let columns = [k + 1, first, last, unit, turns, rest, number as usize];
+    for (i, x) in columns.into_iter().enumerate() {
+        put_column(&mut line[COLUMN * i..], x);
+    }
+    put_symbols(&mut line[COLUMN * columns.len()..], &block[..unit]);
+    line[LINE - 1] = b'\n';
+}
+
+fn judge_ends(n: u32, limit: usize, ends: impl Iterator<Item = u32>) -> Answer<u32> {
+    if limit < n as usize {
         return Err((1, 0));
     }
     let mut before = 0;
@@ -991,34 +975,54 @@ fn judge_ends(n: u32, ends: impl Iterator<Item = u32>) -> Answer<u32> {
     Ok(blocks)
 }
 
-fn put_number(out: &mut [u8], x: u32) {
-    for (place, power) in out[..4].iter_mut().zip([1000, 100, 10, 1]) {
+/// The powers of ten of a number's digits, by the digits.
+fn powers(digits: usize) -> &'static [u32] {
+    &[100_000, 10_000, 1000, 100, 10, 1][6 - digits..]
+}
+
+fn put_number(out: &mut [u8], powers: &[u32], x: u32) {
+    for (place, power) in out.iter_mut().zip(powers) {
         *place = b'0' + (x / power % 10) as u8;
     }
 }
 
+/// The line of so many digits a number, of which each takes one byte more.
+fn put_line(begins: &[u8; 5], digits: usize, n: u32, ends: &[u32], out: &mut [u8]) {
+    out[..5].copy_from_slice(begins);
+    let (step, powers) = (digits + 1, powers(digits));
+    put_number(&mut out[5..], powers, n);
+    out[4 + step] = b',';
+    put_number(&mut out[5 + step..], powers, ends.len() as u32);
+    for (k, &end) in ends.iter().enumerate() {
+        let at = 5 + step * (k + 2);
+        out[at - 1] = b',';
+        put_number(&mut out[at..], powers, end);
+    }
+    out[4 + step * (ends.len() + 2)] = b'\n';
+}
+
 pub fn write_plan(n: u32, ends: &[u32], out: &mut [u8]) -> Answer<u32> {
-    let blocks = judge_ends(n, ends.iter().copied())?;
-    let bytes = 15 + 5 * blocks as usize;
+    let blocks = judge_ends(n, LIMIT, ends.iter().copied())? as usize;
+    let long = LINE_LIMIT < n as usize;
+    let bytes = if long {
+        19 + 7 * blocks
+    } else {
+        15 + 5 * blocks
+    };
     if out.len() < bytes {
         return Err((7, 0));
     }
-    out[..5].copy_from_slice(b"plan,");
-    put_number(&mut out[5..], n);
-    out[9] = b',';
-    put_number(&mut out[10..], blocks);
-    for (k, &end) in ends.iter().enumerate() {
-        let at = 15 + 5 * k;
-        out[at - 1] = b',';
-        put_number(&mut out[at..], end);
+    if long {
+        put_line(b"long,", 6, n, ends, out);
+    } else {
+        put_line(b"plan,", 4, n, ends, out);
     }
-    out[bytes - 1] = b'\n';
     Ok(bytes as u32)
 }
 
-fn number(s: &[u8], at: usize) -> Option<u32> {
+fn number(s: &[u8], digits: usize, at: usize) -> Option<u32> {
     let mut x = 0;
-    for &b in &s[at..at + 4] {
+    for &b in &s[at..at + digits] {
         if !b.is_ascii_digit() {
             return None;
         }
@@ -1027,33 +1031,37 @@ fn number(s: &[u8], at: usize) -> Option<u32> {
     Some(x)
 }
 
-fn field(s: &[u8], at: usize) -> Option<u32> {
+fn field(s: &[u8], digits: usize, at: usize) -> Option<u32> {
     if s[at - 1] != b',' {
         return None;
     }
-    number(s, at)
+    number(s, digits, at)
 }
 
-// n and the count of ends, where the bytes are a line.
-fn header(s: &[u8]) -> Option<(u32, u32)> {
-    if s.len() < 15 || !s.starts_with(b"plan,") {
+// n and the count of ends, where the bytes are a line of so many digits a number.
+fn header(s: &[u8], digits: usize) -> Option<(u32, u32)> {
+    let step = digits + 1;
+    if s.len() < 5 + 2 * step {
         return None;
     }
-    let n = field(s, 5)?;
-    let count = field(s, 10)?;
-    if s.len() != 15 + 5 * count as usize {
+    let n = field(s, digits, 5)?;
+    let count = field(s, digits, 5 + step)?;
+    if s.len() != 5 + step * (count as usize + 2) {
         return None;
     }
     for k in 0..count as usize {
-        field(s, 15 + 5 * k)?;
+        field(s, digits, 5 + step * (k + 2))?;
     }
     (s[s.len() - 1] == b'\n').then_some((n, count))
 }
 
-pub fn read_plan(s: &[u8], table: &mut [u32]) -> Answer<(u32, u32)> {
-    let (n, count) = header(s).ok_or((11, 0))?;
-    let end = |k: usize| number(s, 15 + 5 * k).unwrap_or(0);
-    judge_ends(n, (0..count as usize).map(end))?;
+fn read_line(s: &[u8], digits: usize, limit: usize, table: &mut [u32]) -> Answer<(u32, u32)> {
+    let (n, count) = header(s, digits).ok_or((11, 0))?;
+    if digits == 6 && n as usize <= LINE_LIMIT {
+        return Err((11, 0));
+    }
+    let end = |k: usize| number(s, digits, 5 + (digits + 1) * (k + 2)).unwrap_or(0);
+    judge_ends(n, limit, (0..count as usize).map(end))?;
     if table.len() < count as usize {
         return Err((7, 0));
     }
@@ -1061,4 +1069,14 @@ pub fn read_plan(s: &[u8], table: &mut [u32]) -> Answer<(u32, u32)> {
         *place = end(k);
     }
     Ok((n, count))
+}
+
+pub fn read_plan(s: &[u8], table: &mut [u32]) -> Answer<(u32, u32)> {
+    if s.starts_with(b"plan,") {
+        read_line(s, 4, LINE_LIMIT, table)
+    } else if s.starts_with(b"long,") {
+        read_line(s, 6, LIMIT, table)
+    } else {
+        Err((11, 0))
+    }
 }

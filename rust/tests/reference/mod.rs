@@ -5,9 +5,16 @@
 //! each distance reaches, instead of the recurrence of periods; runs by period instead of by first
 //! position; roots by all candidates at once instead of by two; each boundary looking back instead of
 //! offering forward; squares by their halves, without periods); the test holds them to the plain ones
-//! on every short word.
+//! on every short word. They serve words of up to [`PLAIN`] symbols. Those in `long` serve longer
+//! ones, and are held to these.
 
-pub const LIMIT: usize = 4096;
+pub mod long;
+
+pub const LIMIT: usize = 70_000;
+/// Up to so many symbols a plan line has four digits a number, above six.
+pub const LINE_LIMIT: usize = 4096;
+/// The longest words that are not left to `long`, for the time's sake.
+pub const PLAIN: usize = 4096;
 pub const NONE: u32 = u32::MAX;
 /// What unit memory holds: no block has a longer unit, in either edition.
 pub const UNIT_MEMORY: usize = 256;
@@ -28,7 +35,7 @@ fn refused(number: u32) -> Outcome {
 // ---- symbols
 
 /// A symbol: a number without a sign. A page shows so many of a unit, in so many digits each.
-pub trait Code: Copy + Ord + std::fmt::Debug + std::fmt::LowerHex {
+pub trait Code: Copy + Ord + Into<u64> + std::fmt::Debug + std::fmt::LowerHex {
     const SHOWN: usize;
     const DIGITS: usize;
 }
@@ -115,14 +122,34 @@ pub fn unit<C: Code>(part: &[C]) -> usize {
     part.len() - borders(part)[part.len() - 1]
 }
 
+/// For each distance from 0 on, how many symbols from there on are those from the start on.
+fn agreeing<C: Code>(part: &[C]) -> Vec<usize> {
+    let n = part.len();
+    let mut agree = vec![n; n + 1];
+    // The stretch furthest to the right that is known to agree with the start.
+    let (mut from, mut to) = (0, 0);
+    for p in 1..=n {
+        let known = if p < to {
+            agree[p - from].min(to - p)
+        } else {
+            0
+        };
+        let pairs = part[known..].iter().zip(&part[p + known..]);
+        agree[p] = known + pairs.take_while(|(a, b)| a == b).count();
+        if p + agree[p] > to {
+            (from, to) = (p, p + agree[p]);
+        }
+    }
+    agree
+}
+
 /// The unit of each leading part but the empty one. A distance is a period of those that are at least
 /// as long, as far as no two symbols so far apart differ; the first to reach one is its unit.
 pub fn units<C: Code>(part: &[C]) -> Vec<u32> {
+    let agree = agreeing(part);
     let mut units = Vec::new();
-    for p in 1..=part.len() {
-        let pairs = part.iter().zip(&part[p..]);
-        let reach = p + pairs.take_while(|(a, b)| a == b).count();
-        units.resize(reach.max(units.len()), p as u32);
+    for (p, agree) in agree.into_iter().enumerate().skip(1) {
+        units.resize((p + agree).max(units.len()), p as u32);
     }
     units
 }
@@ -680,6 +707,15 @@ pub fn path_call<C: Code>(
     if places < ends.len() {
         return (refused(7), vec![]);
     }
+    let numbers = match w.len() {
+        0..=PLAIN => run_numbers(w, runs, ends),
+        _ => long::run_numbers(w, runs, ends),
+    };
+    (judged, numbers)
+}
+
+/// Of each block of a split the number of the one run that encloses it and has its unit.
+pub fn run_numbers<C: Code>(w: &[C], runs: &[Run], ends: &[u32]) -> Vec<u32> {
     let mut before = 0;
     let mut numbers = Vec::new();
     for &end in ends {
@@ -694,7 +730,7 @@ pub fn path_call<C: Code>(
         numbers.push(i as u32 + 1);
         before = end;
     }
-    (judged, numbers)
+    numbers
 }
 
 /// A line for each block: number, first, last, unit, turns, rest and run, six characters each, and
@@ -750,25 +786,80 @@ pub fn judge_path_call<C: Code>(w: &[C], edition: u32, runs: &[Run], numbers: &[
     .unwrap_or_else(|| Accepted(vec![ends.len() as u32]))
 }
 
+// ---- plan lines
+
+/// A kind of plan line: the five bytes that it begins with, the digits of a number, and the lengths
+/// that it is for.
+struct Line {
+    begins: &'static str,
+    digits: usize,
+    above: Option<usize>,
+    limit: usize,
+}
+
+const LINES: [Line; 2] = [
+    Line {
+        begins: "plan,",
+        digits: 4,
+        above: None,
+        limit: LINE_LIMIT,
+    },
+    Line {
+        begins: "long,",
+        digits: 6,
+        above: Some(LINE_LIMIT),
+        limit: LIMIT,
+    },
+];
+
 /// The refusals that writing and reading a plan share.
-fn implausible(n: u32, ends: &[u32]) -> Option<Outcome> {
-    if n as usize > LIMIT {
+fn implausible(n: u32, ends: &[u32], limit: usize) -> Option<Outcome> {
+    if n as usize > limit {
         return Some(refused(1));
     }
     verdict(n as usize, ends, |_, _, _| true)
 }
 
-pub fn line(n: u32, ends: &[u32]) -> Vec<u8> {
-    let mut text = format!("plan,{:04},{:04}", n, ends.len());
-    for end in ends {
-        text += &format!(",{end:04}");
+impl Line {
+    fn text(&self, n: u32, ends: &[u32]) -> Vec<u8> {
+        let number = |number: u32| format!("{number:0digits$}", digits = self.digits);
+        let numbers = [n, ends.len() as u32]
+            .into_iter()
+            .chain(ends.iter().copied());
+        let numbers: Vec<String> = numbers.map(number).collect();
+        format!("{}{}\n", self.begins, numbers.join(",")).into_bytes()
     }
-    text.push('\n');
-    text.into_bytes()
+
+    /// n and the ends, if the bytes have this form and an n that a line of it may have.
+    fn parse(&self, s: &[u8]) -> Option<(u32, Vec<u32>)> {
+        let text = s.strip_prefix(self.begins.as_bytes())?;
+        let text = text.strip_suffix(b"\n")?;
+        let numbers = text
+            .split(|&b| b == b',')
+            .map(|f| {
+                (f.len() == self.digits && f.iter().all(u8::is_ascii_digit))
+                    .then(|| std::str::from_utf8(f).unwrap().parse().unwrap())
+            })
+            .collect::<Option<Vec<u32>>>()?;
+        let (&n, rest) = numbers.split_first()?;
+        let (&count, ends) = rest.split_first()?;
+        let needless = self.above.is_some_and(|above| n as usize <= above);
+        (ends.len() == count as usize && !needless).then(|| (n, ends.to_vec()))
+    }
+}
+
+/// The line of n and the ends; of numbers that are too great, one of the same form with more digits.
+pub fn line(n: u32, ends: &[u32]) -> Vec<u8> {
+    LINES[(n as usize > LINE_LIMIT) as usize].text(n, ends)
+}
+
+/// The same in the other form, which is no line or refused.
+pub fn other_line(n: u32, ends: &[u32]) -> Vec<u8> {
+    LINES[(n as usize <= LINE_LIMIT) as usize].text(n, ends)
 }
 
 pub fn write_call(n: u32, ends: &[u32], places: usize) -> (Outcome, Vec<u8>) {
-    if let Some(outcome) = implausible(n, ends) {
+    if let Some(outcome) = implausible(n, ends, LIMIT) {
         return (outcome, vec![]);
     }
     let bytes = line(n, ends);
@@ -778,29 +869,14 @@ pub fn write_call(n: u32, ends: &[u32], places: usize) -> (Outcome, Vec<u8>) {
     (Accepted(vec![bytes.len() as u32]), bytes)
 }
 
-/// n and the ends, if the bytes are a plan line.
-pub fn parse(s: &[u8]) -> Option<(u32, Vec<u32>)> {
-    let text = s.strip_suffix(b"\n")?;
-    let mut fields = text.split(|&b| b == b',');
-    if fields.next()? != b"plan" {
-        return None;
-    }
-    let numbers = fields
-        .map(|f| {
-            (f.len() == 4 && f.iter().all(u8::is_ascii_digit))
-                .then(|| std::str::from_utf8(f).unwrap().parse().unwrap())
-        })
-        .collect::<Option<Vec<u32>>>()?;
-    let (&n, rest) = numbers.split_first()?;
-    let (&count, ends) = rest.split_first()?;
-    (ends.len() == count as usize).then(|| (n, ends.to_vec()))
-}
-
 pub fn read_call(s: &[u8], places: usize) -> (Outcome, Vec<u32>) {
-    let Some((n, ends)) = parse(s) else {
+    let mut read = LINES
+        .iter()
+        .filter_map(|kind| Some((kind.limit, kind.parse(s)?)));
+    let Some((limit, (n, ends))) = read.next() else {
         return (refused(11), vec![]);
     };
-    if let Some(outcome) = implausible(n, &ends) {
+    if let Some(outcome) = implausible(n, &ends, limit) {
         return (outcome, vec![]);
     }
     if places < ends.len() {

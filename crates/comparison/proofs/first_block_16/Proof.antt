@@ -14,8 +14,8 @@ use Rattle.comparison.proofs.first_block_16.Tie as tie
 starts : (p : ℕ × ℕ) → _≡_ {A = ℕ × ℕ} (p .0, 0 + p .1) p
 starts p = ap (λ (x : ℕ). (p .0, x)) (zero-add (p .1))
 
-compare-requires : tie.Need-compare-requires
-compare-requires c κs = search needs
+compare-16-requires : tie.Need-compare-16-requires
+compare-16-requires c κs = search needs
 
 enum-known-length : tie.Need-enum-known-length
 enum-known-length c = search needs
@@ -32,7 +32,7 @@ part-result-start c = search needs
 part-result-end : tie.Need-part-result-end
 part-result-end c =
     let g = c .before .before .before .before .before .before .before .before .before .before .args in
-    choice-within (g .a .now) (g .b .now) (g .edition) (g .work .now) _ _ (c .before .before .before .before .before .compare .ensures .0) (c .before .length .given .1)
+    choice-within (g .a .now) (g .b .now) (g .edition) (g .work .now) _ _ (c .before .before .before .before .before .compare-16 .ensures .0) (c .before .length .given .1)
 
 same-length : tie.Need-same-length
 same-length c = search needs
@@ -40,7 +40,7 @@ same-length c = search needs
 returns : tie.Need-returns
 returns c =
     let g = c .before .before .before .before .before .before .before .before .before .before .before .args in
-    let k = c .before .before .before .before .before .before .compare .ensures in
+    let k = c .before .before .before .before .before .before .compare-16 .ensures in
     let e = c .before .before .length .given in
     block-answered (g .a .now) (g .b .now) (g .edition) (g .work .now) (g .a .ptr) (g .b .ptr) (First (e .0 .0)) _ _ _ (sym (e .1) ∙ k .0) (ap (λ (x : ℕ). take x (g .a .now)) (sub-zero (e .0 .0))) (starts (g .a .ptr)) (k .1)
 
@@ -59,7 +59,7 @@ part-result-start-2 c = search needs
 part-result-end-2 : tie.Need-part-result-end-2
 part-result-end-2 c =
     let g = c .before .before .before .before .before .before .before .before .before .before .args in
-    choice-within (g .a .now) (g .b .now) (g .edition) (g .work .now) _ _ (c .before .before .before .before .before .compare .ensures .0) (c .before .length2 .given .1)
+    choice-within (g .a .now) (g .b .now) (g .edition) (g .work .now) _ _ (c .before .before .before .before .before .compare-16 .ensures .0) (c .before .length2 .given .1)
 
 same-length-2 : tie.Need-same-length-2
 same-length-2 c = search needs
@@ -67,7 +67,7 @@ same-length-2 c = search needs
 returns-2 : tie.Need-returns-2
 returns-2 c =
     let g = c .before .before .before .before .before .before .before .before .before .before .before .args in
-    let k = c .before .before .before .before .before .before .compare .ensures in
+    let k = c .before .before .before .before .before .before .compare-16 .ensures in
     let e = c .before .before .length2 .given in
     block-answered (g .a .now) (g .b .now) (g .edition) (g .work .now) (g .a .ptr) (g .b .ptr) (Second (e .0 .0)) _ _ _ (sym (e .1) ∙ k .0) (ap (λ (x : ℕ). take x (g .b .now)) (sub-zero (e .0 .0))) (starts (g .b .ptr)) (k .1)
 
@@ -89,7 +89,7 @@ same-length-3 c = search needs
 returns-3 : tie.Need-returns-3
 returns-3 c =
     let g = c .before .before .before .before .before .before .before .before .before .before .args in
-    let k = c .before .before .before .before .before .compare .ensures in
+    let k = c .before .before .before .before .before .compare-16 .ensures in
     let e = c .before .enum-told .given in
     block-answered (g .a .now) (g .b .now) (g .edition) (g .work .now) (g .a .ptr) (g .b .ptr) (Refused (e .0 .0)) _ _ _ (sym (e .1) ∙ k .0) refl (starts (g .a .ptr)) (k .1)
 
@@ -97,7 +97,7 @@ pub first-block-16-spec : {M : Type 1} → statement M
 first-block-16-spec =
     tie.close
     (tie.spec
-    compare-requires
+    compare-16-requires
     enum-known-length
     cast-result
     sub-result

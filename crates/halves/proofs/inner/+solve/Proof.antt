@@ -52,7 +52,7 @@ solve-same-length : (t : ℕ) → solve-lts.Need-same-length (
   node-reads.Asked,
   node-reads.Learnt,
 ) (solve-at t) solve.Post
-solve-same-length t c = c .before .before .before .before .scan .kept .1 .1 .1 .0
+solve-same-length t c = c .before .before .before .before .scan .kept .1 .1 .1 .1 .0
 
 solve-same-length-2 : (t : ℕ) → solve-lts.Need-same-length-2 (
   scan-reads.Asked,
@@ -62,7 +62,7 @@ solve-same-length-2 : (t : ℕ) → solve-lts.Need-same-length-2 (
   node-reads.Asked,
   node-reads.Learnt,
 ) (solve-at t) solve.Post
-solve-same-length-2 t c = c .before .before .before .before .scan .kept .1 .1 .1 .1 .0
+solve-same-length-2 t c = c .before .before .before .before .scan .kept .1 .1 .1 .1 .1 .0
 
 solve-returns : (t : ℕ) → solve-lts.Need-returns (
   scan-reads.Asked,
@@ -120,7 +120,7 @@ solve-solve-requires-2 t c κs =
     let q = c .before .before .before .before .before .before .before .before .before .before .before .before .before .pre in
     let x = c .before .before .before .before .before .before .solve in (
       omega (arith, q .0, q .1 .0, c .before .before .before .before .before .before .before .before .before .if1 .left),
-      (omega (arith, q .1 .0), q .1 .1, ((q .1 .2 .0 .0, omega (arith, q .1 .2 .0 .1, x .kept .1 .1 .1 .0)), x .ensures .0 .room (q .1 .2 .1))),
+      (omega (arith, q .1 .0), q .1 .1, ((q .1 .2 .0 .0, omega (arith, q .1 .2 .0 .1, x .kept .1 .1 .1 .1 .0)), x .ensures .0 .room (q .1 .2 .1))),
     )
 
 solve-node-requires : (t : ℕ) → solve-lts.Need-node-requires (
@@ -140,7 +140,7 @@ solve-node-requires t c κs =
       q .1,
       solved-grow _ _ _ _ _ (y .ensures .0 .grows) (x .ensures .1),
       y .ensures .1,
-      ((q .2 .0 .0, omega (arith, q .2 .0 .1, x .kept .1 .1 .1 .0, y .kept .1 .1 .1 .0)), y .ensures .0 .room (x .ensures .0 .room (q .2 .1))),
+      ((q .2 .0 .0, omega (arith, q .2 .0 .1, x .kept .1 .1 .1 .1 .0, y .kept .1 .1 .1 .1 .0)), y .ensures .0 .room (x .ensures .0 .room (q .2 .1))),
     )
 
 solve-same-length-3 : (t : ℕ) → solve-lts.Need-same-length-3 (
@@ -151,7 +151,7 @@ solve-same-length-3 : (t : ℕ) → solve-lts.Need-same-length-3 (
   node-reads.Asked,
   node-reads.Learnt,
 ) (solve-at t) solve.Post
-solve-same-length-3 t c = c .before .before .before .before .node .kept .1 .1 .1 .1 .0 ∙ c .before .before .before .before .before .before .before .before .before .before .before .solve2 .kept .1 .1 .1 .0 ∙ c .before .before .before .before .before .before .before .before .before .before .before .before .before .before .before .before .before .before .solve .kept .1 .1 .1 .0
+solve-same-length-3 t c = c .before .before .before .before .node .kept .1 .1 .1 .1 .1 .0 ∙ c .before .before .before .before .before .before .before .before .before .before .before .solve2 .kept .1 .1 .1 .1 .0 ∙ c .before .before .before .before .before .before .before .before .before .before .before .before .before .before .before .before .before .before .solve .kept .1 .1 .1 .1 .0
 
 solve-same-length-4 : (t : ℕ) → solve-lts.Need-same-length-4 (
   scan-reads.Asked,
@@ -161,7 +161,7 @@ solve-same-length-4 : (t : ℕ) → solve-lts.Need-same-length-4 (
   node-reads.Asked,
   node-reads.Learnt,
 ) (solve-at t) solve.Post
-solve-same-length-4 t c = c .before .before .before .before .node .kept .1 .1 .1 .1 .1 .0 ∙ c .before .before .before .before .before .before .before .before .before .before .before .solve2 .kept .1 .1 .1 .1 .0 ∙ c .before .before .before .before .before .before .before .before .before .before .before .before .before .before .before .before .before .before .solve .kept .1 .1 .1 .1 .0
+solve-same-length-4 t c = c .before .before .before .before .node .kept .1 .1 .1 .1 .1 .1 .0 ∙ c .before .before .before .before .before .before .before .before .before .before .before .solve2 .kept .1 .1 .1 .1 .1 .0 ∙ c .before .before .before .before .before .before .before .before .before .before .before .before .before .before .before .before .before .before .solve .kept .1 .1 .1 .1 .1 .0
 
 solve-returns-2 : (t : ℕ) → solve-lts.Need-returns-2 (
   scan-reads.Asked,
@@ -173,7 +173,7 @@ solve-returns-2 : (t : ℕ) → solve-lts.Need-returns-2 (
 ) (solve-at t) solve.Post
 solve-returns-2 t c =
     let z = c .before .before .before .before .node .ensures in
-    (keeps-then _ _ _ _ _ _ _ _ _ _ (c .before .before .before .before .before .before .before .before .before .before .before .before .before .before .before .before .before .before .solve .ensures .0) (keeps-then _ _ _ _ _ _ _ _ _ _ (c .before .before .before .before .before .before .before .before .before .before .before .solve2 .ensures .0) (z .0)), z .1)
+    (keeps-then _ _ _ _ _ _ _ _ _ _ _ (c .before .before .before .before .before .before .before .before .before .before .before .before .before .before .before .before .before .before .solve .ensures .0) (keeps-then _ _ _ _ _ _ _ _ _ _ _ (c .before .before .before .before .before .before .before .before .before .before .before .solve2 .ensures .0) (z .0)), z .1)
 
 pub +solve-spec : {M : Type 1} → statement M
 +solve-spec = close μ-solve λ t. solve-lts.spec (

@@ -2,6 +2,7 @@
 use mathlib.Core.Path.{_∙_}
 use Prim.Native.Nat.{_-_}
 use native.Mathlib.Omega.{arith}
+use Rattle.runs.specs.declared.Listing.the-variants.{Keys}
 use Rattle.halves.proofs.Cleared.{no-places, count-roomy, sums-asked, count-is, starts-left}
 use borrow.Author.Needs.{needs}
 use Rattle.halves.proofs.inner.count.Statement.{statement}
@@ -83,7 +84,7 @@ part-starts-end : tie.Need-part-starts-end
 part-starts-end c = search needs
 
 starts-requires : tie.Need-starts-requires
-starts-requires c κs = sums-asked (c .before .before .before .before .before .before .before .before .before .before .before .before .before .before .before .before .before .before .before .args .w .now) (c .before .before .before .before .before .before .before .before .before .before .before .before .before .before .before .before .before .before .before .args .scratch .now) (c .before .before .before .before .before .before .before .before .before .before .before .before .before .before .clear .last .0) (c .before .before .before .before .before .before .before .before .before .before .before .before .before .before .before .before .before .before .before .pre) (c .before .before .before .before .before .before .before .before .before .before .before .before .before .before .clear .ensures) (c .before .before .before .before .before .before .before .before .before .before .clear2 .last .0) (c .before .before .before .before .before .before .before .before .before .before .clear2 .ensures) _ (c .before .before .before .before .before .solve .last .1 .1 .1 .0) _ (c .before .before .before .before .before .solve .ensures .0) (c .before .before .before .before .before .solve .ensures .1) (c .before .before .before .before .before .solve .kept .1 .1 .1 .0)
+starts-requires c κs = sums-asked (c .before .before .before .before .before .before .before .before .before .before .before .before .before .before .before .before .before .before .before .args .w .now) (c .before .before .before .before .before .before .before .before .before .before .before .before .before .before .before .before .before .before .before .args .scratch .now) (c .before .before .before .before .before .before .before .before .before .before .before .before .before .before .clear .last .0) (c .before .before .before .before .before .before .before .before .before .before .before .before .before .before .before .before .before .before .before .pre) (c .before .before .before .before .before .before .before .before .before .before .before .before .before .before .clear .ensures) (c .before .before .before .before .before .before .before .before .before .before .clear2 .last .0) (c .before .before .before .before .before .before .before .before .before .before .clear2 .ensures) Keys _ (c .before .before .before .before .before .solve .last .1 .1 .1 .1 .0) _ (c .before .before .before .before .before .solve .ensures .0) (c .before .before .before .before .before .solve .ensures .1) (c .before .before .before .before .before .solve .kept .1 .1 .1 .1 .0)
 
 same-length : tie.Need-same-length
 same-length c = search needs
@@ -93,8 +94,8 @@ same-length-2 c = search needs
 
 returns : tie.Need-returns
 returns c = (
-  c .before .before .starts .ensures .0 ∙ count-is (c .before .before .before .before .before .before .before .before .before .before .before .before .before .before .before .before .before .before .before .before .before .before .args .w .now) (c .before .before .before .before .before .before .before .before .before .before .before .before .before .before .before .before .before .before .before .before .before .before .args .scratch .now) (c .before .before .before .before .before .before .before .before .before .before .before .before .before .before .before .before .before .clear .last .0) (c .before .before .before .before .before .before .before .before .before .before .before .before .before .before .before .before .before .before .before .before .before .before .pre) (c .before .before .before .before .before .before .before .before .before .before .before .before .before .before .before .before .before .clear .ensures) (c .before .before .before .before .before .before .before .before .before .before .before .before .before .clear2 .last .0) (c .before .before .before .before .before .before .before .before .before .before .before .before .before .clear2 .ensures) _ (c .before .before .before .before .before .before .before .before .solve .last .1 .1 .1 .0) _ (c .before .before .before .before .before .before .before .before .solve .ensures .0) (c .before .before .before .before .before .before .before .before .solve .ensures .1) (c .before .before .before .before .before .before .before .before .solve .kept .1 .1 .1 .0),
-  (starts-left (c .before .before .before .before .before .before .before .before .before .before .before .before .before .before .before .before .before .before .before .before .before .before .args .w .now) (c .before .before .before .before .before .before .before .before .before .before .before .before .before .before .before .before .before .before .before .before .before .before .args .scratch .now) (c .before .before .before .before .before .before .before .before .before .before .before .before .before .before .before .before .before .clear .last .0) (c .before .before .before .before .before .before .before .before .before .before .before .before .before .before .before .before .before .before .before .before .before .before .pre) (c .before .before .before .before .before .before .before .before .before .before .before .before .before .before .before .before .before .clear .ensures) (c .before .before .before .before .before .before .before .before .before .before .before .before .before .clear2 .last .0) (c .before .before .before .before .before .before .before .before .before .before .before .before .before .clear2 .ensures) _ (c .before .before .before .before .before .before .before .before .solve .last .1 .1 .1 .0) _ (c .before .before .before .before .before .before .before .before .solve .ensures .0) (c .before .before .before .before .before .before .before .before .solve .ensures .1) (c .before .before .before .before .before .before .before .before .solve .kept .1 .1 .1 .0) (c .before .before .starts .last .0) (c .before .before .starts .kept .0) (c .before .before .starts .ensures .1), no-places (c .before .before .before .before .before .before .before .before .solve .last .1 .1 .1 .1 .0) (c .before .before .before .before .before .before .before .before .before .before .before .before .before .before .before .before .before .before .before .before .before .before .args .table .now) (c .before .before .before .before .before .before .before .before .solve .kept .1 .1 .1 .1 .0)),
+  c .before .before .starts .ensures .0 ∙ count-is (c .before .before .before .before .before .before .before .before .before .before .before .before .before .before .before .before .before .before .before .before .before .before .args .w .now) (c .before .before .before .before .before .before .before .before .before .before .before .before .before .before .before .before .before .before .before .before .before .before .args .scratch .now) (c .before .before .before .before .before .before .before .before .before .before .before .before .before .before .before .before .before .clear .last .0) (c .before .before .before .before .before .before .before .before .before .before .before .before .before .before .before .before .before .before .before .before .before .before .pre) (c .before .before .before .before .before .before .before .before .before .before .before .before .before .before .before .before .before .clear .ensures) (c .before .before .before .before .before .before .before .before .before .before .before .before .before .clear2 .last .0) (c .before .before .before .before .before .before .before .before .before .before .before .before .before .clear2 .ensures) Keys _ (c .before .before .before .before .before .before .before .before .solve .last .1 .1 .1 .1 .0) _ (c .before .before .before .before .before .before .before .before .solve .ensures .0) (c .before .before .before .before .before .before .before .before .solve .ensures .1) (c .before .before .before .before .before .before .before .before .solve .kept .1 .1 .1 .1 .0),
+  (starts-left (c .before .before .before .before .before .before .before .before .before .before .before .before .before .before .before .before .before .before .before .before .before .before .args .w .now) (c .before .before .before .before .before .before .before .before .before .before .before .before .before .before .before .before .before .before .before .before .before .before .args .scratch .now) (c .before .before .before .before .before .before .before .before .before .before .before .before .before .before .before .before .before .clear .last .0) (c .before .before .before .before .before .before .before .before .before .before .before .before .before .before .before .before .before .before .before .before .before .before .pre) (c .before .before .before .before .before .before .before .before .before .before .before .before .before .before .before .before .before .clear .ensures) (c .before .before .before .before .before .before .before .before .before .before .before .before .before .clear2 .last .0) (c .before .before .before .before .before .before .before .before .before .before .before .before .before .clear2 .ensures) Keys _ (c .before .before .before .before .before .before .before .before .solve .last .1 .1 .1 .1 .0) _ (c .before .before .before .before .before .before .before .before .solve .ensures .0) (c .before .before .before .before .before .before .before .before .solve .ensures .1) (c .before .before .before .before .before .before .before .before .solve .kept .1 .1 .1 .1 .0) (c .before .before .starts .last .0) (c .before .before .starts .kept .0) (c .before .before .starts .ensures .1), no-places (c .before .before .before .before .before .before .before .before .solve .last .1 .1 .1 .1 .1 .0) (c .before .before .before .before .before .before .before .before .before .before .before .before .before .before .before .before .before .before .before .before .before .before .args .table .now) (c .before .before .before .before .before .before .before .before .solve .kept .1 .1 .1 .1 .1 .0)),
 )
 
 pub count-spec : {M : Type 1} → statement M

@@ -16,7 +16,7 @@ returns : tie.Need-returns
 returns c =
     let g = c .before .before .before .before .args in
     let q = c .before .before .before .before .pre in
-    untried (g .w .now) (g .scratch .now) (g .table .now) (g .lo) (g .hi) (g .m + g .p) (g .p) (met-none (g .w .now) (g .lo) (g .hi) (g .m + g .p) (g .p) _ (inl (omega arith)))
+    untried (g .listing) (g .w .now) (g .scratch .now) (g .table .now) (g .lo) (g .hi) (g .m + g .p) (g .p) (met-none (g .w .now) (g .lo) (g .hi) (g .m + g .p) (g .p) _ (inl (omega arith)))
 
 add-before : tie.Need-add-before
 add-before c = search needs

@@ -67,7 +67,7 @@ returns : tie.Need-returns
 returns c =
     let g = c .before .before .before .before .before .before .before .before .args in
     let q = c .before .before .before .before .before .before .before .before .pre in (
-      added-keeps (g .w .now) (g .scratch .now) (g .table .now) (g .a) (g .b) (g .p) (q .0 .0) (q .1) _ (c .before .before .put-run .ensures),
+      added-keeps (g .w .now) (g .scratch .now) (g .table .now) (g .a) (g .b) (g .p) (q .0 .0) (q .1) (g .listing) _ (c .before .before .put-run .ensures),
       (
         added-same (g .w .now) (g .scratch .now) (g .table .now) (g .a) (g .b) (g .p) (q .0 .0) (q .1),
         added-tried (g .w .now) (g .scratch .now) (g .table .now) (g .a) (g .b) (g .p) (q .0 .0) (q .1),

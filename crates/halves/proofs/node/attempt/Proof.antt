@@ -16,7 +16,7 @@ returns : tie.Need-returns
 returns c =
     let g = c .before .before .before .before .args in
     let q = c .before .before .before .before .pre in
-    way-short (g .w .now) (g .scratch .now) (g .table .now) (g .c - g .left) (g .c + g .p + g .right) (g .p) (q .1) (omega arith)
+    way-short (g .listing) (g .w .now) (g .scratch .now) (g .table .now) (g .c - g .left) (g .c + g .p + g .right) (g .p) (q .1) (omega arith)
 
 sub-a : tie.Need-sub-a
 sub-a c = search needs
@@ -51,7 +51,7 @@ returns-2 : tie.Need-returns-2
 returns-2 c =
     let g = c .before .before .before .before .before .before .args in
     let q = c .before .before .before .before .before .before .pre in
-    way-old (g .w .now) (g .scratch .now) (g .table .now) (g .c - g .left) (g .c + g .p + g .right) (g .p) (q .1) (omega (arith, c .if2 .taken))
+    way-old (g .listing) (g .w .now) (g .scratch .now) (g .table .now) (g .c - g .left) (g .c + g .p + g .right) (g .p) (q .1) (omega (arith, c .if2 .taken))
 
 left-maximal-requires : tie.Need-left-maximal-requires
 left-maximal-requires c κs = search needs
@@ -60,7 +60,7 @@ returns-3 : tie.Need-returns-3
 returns-3 c =
     let g = c .before .before .before .before .before .before .before .before .args in
     let q = c .before .before .before .before .before .before .before .before .pre in
-    way-left (g .w .now) (g .scratch .now) (g .table .now) (g .c - g .left) (g .c + g .p + g .right) (g .p) (q .1) (sym (c .before .left-maximal .ensures) ∙ not-true _ (c .if3 .taken))
+    way-left (g .listing) (g .w .now) (g .scratch .now) (g .table .now) (g .c - g .left) (g .c + g .p + g .right) (g .p) (q .1) (sym (c .before .left-maximal .ensures) ∙ not-true _ (c .if3 .taken))
 
 right-maximal-requires : tie.Need-right-maximal-requires
 right-maximal-requires c κs = search needs
@@ -69,14 +69,14 @@ returns-4 : tie.Need-returns-4
 returns-4 c =
     let g = c .before .before .before .before .before .before .before .before .before .before .args in
     let q = c .before .before .before .before .before .before .before .before .before .before .pre in
-    way-right (g .w .now) (g .scratch .now) (g .table .now) (g .c - g .left) (g .c + g .p + g .right) (g .p) (q .1) (sym (c .before .right-maximal .ensures) ∙ not-true _ (c .if4 .taken))
+    way-right (g .listing) (g .w .now) (g .scratch .now) (g .table .now) (g .c - g .left) (g .c + g .p + g .right) (g .p) (q .1) (sym (c .before .right-maximal .ensures) ∙ not-true _ (c .if4 .taken))
 
 add-run-requires : tie.Need-add-run-requires
 add-run-requires c κs =
     let g = c .before .before .before .before .before .before .before .before .before .before .before .before .args in
     let q = c .before .before .before .before .before .before .before .before .before .before .before .before .pre in (
       q .3,
-      way-new (g .w .now) (g .scratch .now) (g .table .now) (g .c - g .left) (g .c + g .p + g .right) (g .p) (q .1) (omega arith)
+      way-new (g .listing) (g .w .now) (g .scratch .now) (g .table .now) (g .c - g .left) (g .c + g .p + g .right) (g .p) (q .1) (omega arith)
           (sym (c .before .before .before .before .before .left-maximal .ensures) ∙ not-false _ (c .before .before .before .before .if3 .left))
           (sym (c .before .before .before .right-maximal .ensures) ∙ not-false _ (c .before .before .if4 .left)) (q .2) (c .before .before .before .before .before .before .if2 .left),
     )

@@ -19,7 +19,7 @@ returns : tie.Need-returns
 returns c =
     let g = c .before .before .before .before .args in
     let q = c .before .before .before .before .pre in
-    untried (g .w .now) (g .scratch .now) (g .table .now) (g .lo) (g .hi) (g .m) (g .p) (met-none (g .w .now) (g .lo) (g .hi) (g .m) (g .p) _ (inr (omega arith)))
+    untried (g .listing) (g .w .now) (g .scratch .now) (g .table .now) (g .lo) (g .hi) (g .m) (g .p) (met-none (g .w .now) (g .lo) (g .hi) (g .m) (g .p) _ (inr (omega arith)))
 
 add-before : tie.Need-add-before
 add-before c = search needs
@@ -83,7 +83,7 @@ returns-2 c =
     let q = c .before .before .before .before .before .before .before .before .before .before .before .before .before .pre in
     let S = below-read (g .w .now) (g .scratch .now) (g .lo) (g .m) (g .hi) (q .1) (q .2) (q .3) (q .4) (g .p) (q .0) (omega arith) in
     let a = c .before .before .before .before .attempt .ensures in
-    (a .0, (a .1 .0, subst (λ (x : ℕ). Met (g .w .now) (g .lo) (g .hi) x (g .p) (endsRow (g .w .now) (c .before .before .before .before .attempt .last .1 .1 .1 .1 .1 .0))) (omega arith) (stretch-met (g .w .now) (g .lo) (g .hi) (g .m - g .p) (g .p) _ _ _ (S .1) (q .3) (a .1 .1))))
+    (a .0, (a .1 .0, subst (λ (x : ℕ). Met (g .w .now) (g .lo) (g .hi) x (g .p) (endsRow (g .w .now) (c .before .before .before .before .attempt .last .1 .1 .1 .1 .1 .1 .0))) (omega arith) (stretch-met (g .w .now) (g .lo) (g .hi) (g .m - g .p) (g .p) _ _ _ (S .1) (q .3) (a .1 .1))))
 
 pub below-spec : {M : Type 1} → statement M
 below-spec =

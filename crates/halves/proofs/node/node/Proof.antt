@@ -15,10 +15,10 @@ use Rattle.halves.proofs.node.node.Statement.{statement}
 use Rattle.halves.proofs.node.node.Tie as tie
 
 abbrev Inv-loop : tie.InvT-loop
-Inv-loop w lo m hi scratch₀ table₀ half p₀ scratch table p = (1 ≤ p) × (p ≤ half + 1) × (length scratch ≡ length scratch₀) × (length table ≡ length table₀) × Advances w scratch₀ table₀ scratch table × Done w lo m hi p (endsRow w scratch) × Room w (endsRow w scratch) (nextRow w scratch) × Tables w lo m hi (prefixRow w scratch) (suffixRow w scratch)
+Inv-loop w lo m hi listing scratch₀ table₀ half p₀ scratch table p = (1 ≤ p) × (p ≤ half + 1) × (length scratch ≡ length scratch₀) × (length table ≡ length table₀) × Advances listing w scratch₀ table₀ scratch table × Done w lo m hi p (endsRow w scratch) × Room w (endsRow w scratch) (nextRow w scratch) × Tables w lo m hi (prefixRow w scratch) (suffixRow w scratch)
 
 abbrev μ-loop : tie.MeasureT-loop
-μ-loop w lo m hi scratch₀ table₀ half p₀ scratch table p = half + 1 - p
+μ-loop w lo m hi listing scratch₀ table₀ half p₀ scratch table p = half + 1 - p
 
 fill-tables-requires : tie.Need-fill-tables-requires Inv-loop μ-loop
 fill-tables-requires c κs =
@@ -39,7 +39,7 @@ loop-holds c =
       omega arith,
       refl,
       refl,
-      keeps-none _ _ _ _,
+      keeps-none _ _ _ _ _,
       done-start _ _ _ _ (q .2) _ (solved-kept _ _ _ _ _ (f .1) (q .3)) (solved-kept _ _ _ _ _ (f .1) (q .4)),
       room-kept _ _ _ (f .1) (q .5 .1),
       f .0,
@@ -64,7 +64,7 @@ below-requires c κs =
       q .2,
       tables-kept _ _ _ _ _ _ (x .ensures .1 .0) (i .7),
       done-grow _ _ _ _ _ _ _ (x .ensures .0 .grows) (i .5),
-      ((q .5 .0 .0, omega (arith, q .5 .0 .1, c .before .before .before .before .before .before .before .before .before .before .before .before .before .fill-tables .kept .1 .1 .1 .1 .0, i .2, x .kept .1 .1 .1 .1 .1 .0)), x .ensures .0 .room (i .6)),
+      ((q .5 .0 .0, omega (arith, q .5 .0 .1, c .before .before .before .before .before .before .before .before .before .before .before .before .before .fill-tables .kept .1 .1 .1 .1 .0, i .2, x .kept .1 .1 .1 .1 .1 .1 .0)), x .ensures .0 .room (i .6)),
     )
 
 add-p : tie.Need-add-p Inv-loop μ-loop
@@ -83,9 +83,9 @@ loop-again c =
     let y = c .before .before .before .before .below in (
       omega arith,
       omega arith,
-      y .kept .1 .1 .1 .1 .1 .0 ∙ x .kept .1 .1 .1 .1 .1 .0 ∙ i .2,
-      y .kept .1 .1 .1 .1 .1 .1 .0 ∙ x .kept .1 .1 .1 .1 .1 .1 .0 ∙ i .3,
-      keeps-then _ _ _ _ _ _ _ _ _ _ (i .4) (keeps-then _ _ _ _ _ _ _ _ _ _ (x .ensures .0) (y .ensures .0)),
+      y .kept .1 .1 .1 .1 .1 .1 .0 ∙ x .kept .1 .1 .1 .1 .1 .1 .0 ∙ i .2,
+      y .kept .1 .1 .1 .1 .1 .1 .1 .0 ∙ x .kept .1 .1 .1 .1 .1 .1 .1 .0 ∙ i .3,
+      keeps-then _ _ _ _ _ _ _ _ _ _ _ (i .4) (keeps-then _ _ _ _ _ _ _ _ _ _ _ (x .ensures .0) (y .ensures .0)),
       done-more _ _ _ _ (q .2) _ _ _ _ (i .5) (x .ensures .0 .grows) (y .ensures .0 .grows) (x .ensures .1 .1) (y .ensures .1 .1),
       y .ensures .0 .room (x .ensures .0 .room (i .6)),
       tables-kept _ _ _ _ _ _ (y .ensures .1 .0) (tables-kept _ _ _ _ _ _ (x .ensures .1 .0) (i .7)),
@@ -102,7 +102,7 @@ returns c =
     let g = c .before .before .before .before .before .before .before .before .before .args in
     let q = c .before .before .before .before .before .before .before .before .before .pre in
     let i = c .before .loop .inv in
-    (advances-from _ _ _ _ _ _ (c .before .before .before .before .fill-tables .ensures .1) (i .4), done-all _ _ _ _ (q .2) (c .before .loop .p) _ (omega arith) (i .5))
+    (advances-from _ _ _ _ _ _ _ (c .before .before .before .before .fill-tables .ensures .1) (i .4), done-all _ _ _ _ (q .2) (c .before .loop .p) _ (omega arith) (i .5))
 
 pub node-spec : {M : Type 1} → statement M
 node-spec =

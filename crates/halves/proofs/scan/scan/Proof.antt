@@ -13,10 +13,10 @@ use Rattle.halves.proofs.scan.scan.Statement.{statement}
 use Rattle.halves.proofs.scan.scan.Tie as tie
 
 abbrev Inv-loop : tie.InvT-loop
-Inv-loop w lo hi scratch₀ table₀ half p₀ scratch table p = (1 ≤ p) × (p ≤ half + 1) × (length scratch ≡ length scratch₀) × (length table ≡ length table₀) × Advances w scratch₀ table₀ scratch table × Below w lo hi p (endsRow w scratch) × Room w (endsRow w scratch) (nextRow w scratch)
+Inv-loop w lo hi listing scratch₀ table₀ half p₀ scratch table p = (1 ≤ p) × (p ≤ half + 1) × (length scratch ≡ length scratch₀) × (length table ≡ length table₀) × Advances listing w scratch₀ table₀ scratch table × Below w lo hi p (endsRow w scratch) × Room w (endsRow w scratch) (nextRow w scratch)
 
 abbrev μ-loop : tie.MeasureT-loop
-μ-loop w lo hi scratch₀ table₀ half p₀ scratch table p = half + 1 - p
+μ-loop w lo hi listing scratch₀ table₀ half p₀ scratch table p = half + 1 - p
 
 sub-half : tie.Need-sub-half Inv-loop μ-loop
 sub-half c = c .before .before .before .pre .0
@@ -25,7 +25,7 @@ loop-holds : tie.Need-loop-holds Inv-loop μ-loop
 loop-holds c =
     let g = c .before .before .before .args in
     let q = c .before .before .before .pre in
-    (omega arith, omega arith, refl, refl, keeps-none _ _ _ _, below-none (g .w .now) (g .lo) (g .hi) _ (q .1), q .2 .1)
+    (omega arith, omega arith, refl, refl, keeps-none _ _ _ _ _, below-none (g .w .now) (g .lo) (g .hi) _ (q .1), q .2 .1)
 
 scan-period-requires : tie.Need-scan-period-requires Inv-loop μ-loop
 scan-period-requires c κs =
@@ -47,9 +47,9 @@ loop-again c =
     let x = c .before .before .before .before .scan-period in (
       omega arith,
       omega arith,
-      x .kept .1 .1 .1 .1 .0 ∙ i .2,
-      x .kept .1 .1 .1 .1 .1 .0 ∙ i .3,
-      keeps-then _ _ _ _ _ _ _ _ _ _ (i .4) (x .ensures .0),
+      x .kept .1 .1 .1 .1 .1 .0 ∙ i .2,
+      x .kept .1 .1 .1 .1 .1 .1 .0 ∙ i .3,
+      keeps-then _ _ _ _ _ _ _ _ _ _ _ (i .4) (x .ensures .0),
       x .ensures .1,
       x .ensures .0 .room (i .6),
     )

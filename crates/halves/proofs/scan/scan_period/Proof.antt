@@ -12,16 +12,16 @@ use Rattle.halves.proofs.scan.scan_period.Statement.{statement}
 use Rattle.halves.proofs.scan.scan_period.Tie as tie
 
 abbrev Inv-loop : tie.InvT-loop
-Inv-loop w lo hi p scratch₀ table₀ start₀ at₀ scratch table start at = (length scratch ≡ length scratch₀) × (length table ≡ length table₀) × Advances w scratch₀ table₀ scratch table × Below w lo hi p (endsRow w scratch) × Room w (endsRow w scratch) (nextRow w scratch) × Scanned w lo hi p start at (endsRow w scratch)
+Inv-loop w lo hi p listing scratch₀ table₀ start₀ at₀ scratch table start at = (length scratch ≡ length scratch₀) × (length table ≡ length table₀) × Advances listing w scratch₀ table₀ scratch table × Below w lo hi p (endsRow w scratch) × Room w (endsRow w scratch) (nextRow w scratch) × Scanned w lo hi p start at (endsRow w scratch)
 
 abbrev μ-loop : tie.MeasureT-loop
-μ-loop w lo hi p scratch₀ table₀ start₀ at₀ scratch table start at = hi - at
+μ-loop w lo hi p listing scratch₀ table₀ start₀ at₀ scratch table start at = hi - at
 
 loop-holds : tie.Need-loop-holds Inv-loop μ-loop
 loop-holds c =
     let g = c .before .before .before .args in
     let q = c .before .before .before .pre in
-    (refl, refl, keeps-none _ _ _ _, q .3, q .4 .1, scanned-none (g .w .now) (g .lo) (g .hi) (g .p) (q .0) (q .2) _ (q .1))
+    (refl, refl, keeps-none _ _ _ _ _, q .3, q .4 .1, scanned-none (g .w .now) (g .lo) (g .hi) (g .p) (q .0) (q .2) _ (q .1))
 
 add-loop : tie.Need-add-loop Inv-loop μ-loop
 add-loop c =
@@ -92,9 +92,9 @@ loop-again-2 c =
     let q = c .before .before .before .before .before .before .before .before .before .before .before .before .before .before .before .pre in
     let i = c .before .before .before .before .before .before .before .before .before .before .before .loop .inv in
     let x = c .before .before .before .before .attempt in (
-      x .kept .1 .1 .1 .1 .1 .0 ∙ i .0,
-      x .kept .1 .1 .1 .1 .1 .1 .0 ∙ i .1,
-      keeps-then _ _ _ _ _ _ _ _ _ _ (i .2) (x .ensures .0),
+      x .kept .1 .1 .1 .1 .1 .1 .0 ∙ i .0,
+      x .kept .1 .1 .1 .1 .1 .1 .1 .0 ∙ i .1,
+      keeps-then _ _ _ _ _ _ _ _ _ _ _ (i .2) (x .ensures .0),
       below-grow _ _ _ _ _ _ (x .ensures .0 .grows) (i .3),
       x .ensures .0 .room (i .4),
       scanned-next (g .w .now) (g .lo) (g .hi) (g .p) (q .0) (q .2) (c .before .before .before .before .before .before .before .before .before .before .before .loop .start) (c .before .before .before .before .before .before .before .before .before .before .before .loop .at) _ (i .5) (λ h. c .before .before .before .before .before .before .before .if1 .left) _ (x .ensures .0 .grows) (x .ensures .1 .1) (omega arith),
@@ -111,10 +111,10 @@ attempt-requires-2 c κs =
     (omega arith, scanned-periodic (g .w .now) (g .lo) (g .hi) (g .p) (q .0) (q .2) (c .before .before .before .loop .start) (c .before .before .before .loop .at) _ (i .5), scanned-ready (g .w .now) (g .lo) (g .hi) (g .p) (q .0) (q .2) (c .before .before .before .loop .start) (c .before .before .before .loop .at) _ (i .5) (i .3), ((q .4 .0 .0, omega (arith, q .4 .0 .1, i .0)), i .4))
 
 same-length : tie.Need-same-length Inv-loop μ-loop
-same-length c = c .before .before .before .before .attempt2 .kept .1 .1 .1 .1 .1 .0 ∙ c .before .before .before .before .before .before .before .before .loop .inv .0
+same-length c = c .before .before .before .before .attempt2 .kept .1 .1 .1 .1 .1 .1 .0 ∙ c .before .before .before .before .before .before .before .before .loop .inv .0
 
 same-length-2 : tie.Need-same-length-2 Inv-loop μ-loop
-same-length-2 c = c .before .before .before .before .attempt2 .kept .1 .1 .1 .1 .1 .1 .0 ∙ c .before .before .before .before .before .before .before .before .loop .inv .1
+same-length-2 c = c .before .before .before .before .attempt2 .kept .1 .1 .1 .1 .1 .1 .1 .0 ∙ c .before .before .before .before .before .before .before .before .loop .inv .1
 
 returns : tie.Need-returns Inv-loop μ-loop
 returns c =
@@ -122,7 +122,7 @@ returns c =
     let q = c .before .before .before .before .before .before .before .before .before .before .before .before .pre in
     let i = c .before .before .before .before .before .before .before .before .loop .inv in
     let x = c .before .before .before .before .attempt2 .ensures in
-    (keeps-then _ _ _ _ _ _ _ _ _ _ (i .2) (x .0), scanned-all (g .w .now) (g .lo) (g .hi) (g .p) (q .0) (q .2) (c .before .before .before .before .before .before .before .before .loop .start) (c .before .before .before .before .before .before .before .before .loop .at) _ (i .5) (λ h. absurd (omega arith)) _ (x .0 .grows) (x .1 .1) (omega arith) (i .3))
+    (keeps-then _ _ _ _ _ _ _ _ _ _ _ (i .2) (x .0), scanned-all (g .w .now) (g .lo) (g .hi) (g .p) (q .0) (q .2) (c .before .before .before .before .before .before .before .before .loop .start) (c .before .before .before .before .before .before .before .before .loop .at) _ (i .5) (λ h. absurd (omega arith)) _ (x .0 .grows) (x .1 .1) (omega arith) (i .3))
 
 pub scan-period-spec : {M : Type 1} → statement M
 scan-period-spec =

@@ -1,50 +1,36 @@
--- `nodes::inner::pick` meets its contract: its loop keeps that the numbers of the nodes among the first i records are counted and stored. Assumes nothing.
-use mathlib.Core.Path.{_≡_, refl, sym, ap, _∙_}
+-- `nodes::inner::pick` meets its contract: its loop keeps that the numbers of those of the first i marks that are set are counted and stored. Assumes nothing.
+use mathlib.Core.Path.{_≡_, refl, ap, _∙_}
 use mathlib.Core.List.{[], _∷_, _++_}
 use Prim.Native.Nat.{_+_, _-_, _≤_}
 use native.Mathlib.Omega.{arith}
-use borrow.Author.Tests.{not-true, not-false}
-use lib.ListN.{length, length-append}
+use borrow.Author.Tests.{eq-eqb, ne-eqb}
+use lib.ListN.{length, getD, take, length-append}
 use lib.Seq.{sets, length-sets}
 use Rattle.laws.proofs.Stores.{stored-next}
-use Rattle.periods.specs.Period.{heldPeriod}
-use Rattle.nodes.specs.Node.{node?, numbersWhere}
-use Rattle.runs.specs.Table.{records, recordAt}
-use Rattle.runs.proofs.Records.{records-none, length-records}
-use Rattle.nodes.proofs.WhiteNodes.{numbers-at-most, pick-skip, pick-add}
+use Rattle.nodes.specs.Inner.{marked}
+use Rattle.nodes.proofs.Marks.{marked-most, mark-skip, mark-add}
 use Rattle.nodes.proofs.inner.pick.Statement.{statement}
 use Rattle.nodes.proofs.inner.pick.Tie as tie
 
 abbrev Inv-loop : tie.InvT-loop
-Inv-loop rows count turns x out₀ found₀ i₀ out found i =
-    (i ≤ count) × (found ≡ length (numbersWhere (node? heldPeriod turns x) 0 (records i rows)))
-    × (out ≡ sets out₀ 0 (numbersWhere (node? heldPeriod turns x) 0 (records i rows)))
+Inv-loop marks count out₀ found₀ i₀ out found i =
+    (i ≤ count) × (found ≡ length (marked 0 (take i marks))) × (out ≡ sets out₀ 0 (marked 0 (take i marks)))
 
 abbrev μ-loop : tie.MeasureT-loop
-μ-loop rows count turns x out₀ found₀ i₀ out found i = count - i
+μ-loop marks count out₀ found₀ i₀ out found i = count - i
 
--- no more are found than records were looked at
+-- no more are found than marks were looked at
 found-most : (c : tie.At-loop Inv-loop μ-loop) → c .loop .found ≤ c .loop .i
-found-most c =
-    let g = c .before .before .before .args in
-    omega (arith, c .loop .inv .1, numbers-at-most (node? heldPeriod (g .turns) (g .x)) 0 (records (c .loop .i) (g .rows .now)), length-records (g .rows .now) (c .loop .i))
-
--- the run that was read, and whether it has a node
-abbrev turn : tie.After-is-node Inv-loop μ-loop → tie.At-loop Inv-loop μ-loop
-turn c = c .before .before .before
-
-tested : (c : tie.After-is-node Inv-loop μ-loop)
-    → c .is-node .result ≡ node? heldPeriod (turn c .before .before .before .args .turns) (turn c .before .before .before .args .x) (recordAt (turn c .before .before .before .args .rows .now) (turn c .loop .i))
-tested c = c .is-node .ensures ∙ ap (node? heldPeriod (turn c .before .before .before .args .turns) (turn c .before .before .before .args .x)) (c .before .row .ensures)
+found-most c = omega (arith, c .loop .inv .1, marked-most (c .before .before .before .args .marks .now) (c .loop .i) (omega arith))
 
 loop-holds : tie.Need-loop-holds Inv-loop μ-loop
-loop-holds c = let g = c .before .before .args in (omega arith, rw (records-none (g .rows .now)) refl, rw (records-none (g .rows .now)) refl)
+loop-holds c = (omega arith, refl, refl)
 
-row-requires : tie.Need-row-requires Inv-loop μ-loop
-row-requires c κs = omega arith
+mul-if1 : tie.Need-mul-if1 Inv-loop μ-loop
+mul-if1 c = omega arith
 
-is-node-requires : tie.Need-is-node-requires Inv-loop μ-loop
-is-node-requires c κs = (omega arith, (omega arith, omega arith))
+shared-slice-read-if1 : tie.Need-shared-slice-read-if1 Inv-loop μ-loop
+shared-slice-read-if1 c = omega arith
 
 add-i : tie.Need-add-i Inv-loop μ-loop
 add-i c = omega arith
@@ -54,14 +40,13 @@ loop-less c = omega arith
 
 loop-again : tie.Need-loop-again Inv-loop μ-loop
 loop-again c =
-    let t = turn (c .before) in
-    let g = t .before .before .before .args in
-    let l = t .loop in
-    let e = pick-skip (node? heldPeriod (g .turns) (g .x)) (g .rows .now) (l .i) (sym (tested (c .before)) ∙ not-true _ (c .if1 .taken)) in
+    let m = c .before .before .before .before .before .before .args .marks .now in
+    let l = c .before .before .before .loop in
+    let e = mark-skip m (l .i) (omega arith) (ne-eqb (getD m (l .i) 0) 1 (c .if1 .taken)) in
     (omega arith, rw e (l .inv .1), rw e (l .inv .2))
 
-add-store : tie.Need-add-store Inv-loop μ-loop
-add-store c = omega arith
+add-i-2 : tie.Need-add-i-2 Inv-loop μ-loop
+add-i-2 c = omega arith
 
 cast-store : tie.Need-cast-store Inv-loop μ-loop
 cast-store c = omega arith
@@ -70,23 +55,18 @@ store-requires : tie.Need-store-requires Inv-loop μ-loop
 store-requires c κs = omega arith
 
 add-found : tie.Need-add-found Inv-loop μ-loop
-add-found c = omega (arith, found-most (turn (c .before .before .before .before .before)))
-
-add-i-2 : tie.Need-add-i-2 Inv-loop μ-loop
-add-i-2 c = omega arith
+add-found c = omega (arith, found-most (c .before .before .before .before .before .before .before))
 
 loop-less-2 : tie.Need-loop-less-2 Inv-loop μ-loop
 loop-less-2 c = omega arith
 
 loop-again-2 : tie.Need-loop-again-2 Inv-loop μ-loop
 loop-again-2 c =
-    let a = c .before .before .before .before .before in
-    let t = turn a in
-    let g = t .before .before .before .args in
-    let l = t .loop in
-    let N = numbersWhere (node? heldPeriod (g .turns) (g .x)) 0 (records (l .i) (g .rows .now)) in
-    let e : numbersWhere (node? heldPeriod (g .turns) (g .x)) 0 (records (l .i + 1) (g .rows .now)) ≡ N ++ ((l .i + 1) ∷ []) =
-    pick-add (node? heldPeriod (g .turns) (g .x)) (g .rows .now) (l .i) (sym (tested a) ∙ not-false _ (c .before .before .before .before .if1 .left)) in (
+    let g = c .before .before .before .before .before .before .before .before .before .before .args in
+    let m = g .marks .now in
+    let l = c .before .before .before .before .before .before .before .loop in
+    let N = marked 0 (take (l .i) m) in
+    let e : marked 0 (take (l .i + 1) m) ≡ N ++ ((l .i + 1) ∷ []) = mark-add m (l .i) (omega arith) (eq-eqb (getD m (l .i) 0) 1 (c .before .before .before .before .if1 .left)) in (
       omega arith,
       omega (arith, l .inv .1, ap length e, length-append N ((l .i + 1) ∷ [])),
       stored-next (g .out .now) (l .out) _ 0 (l .found) (l .i + 1) N _ (l .inv .2) (omega (arith, l .inv .1)) (c .before .before .store .ensures) e,
@@ -96,7 +76,7 @@ same-length : tie.Need-same-length Inv-loop μ-loop
 same-length c =
     let g = c .before .before .before .before .args in
     let l = c .before .loop in
-    ap length (l .inv .2) ∙ length-sets (g .out .now) 0 (numbersWhere (node? heldPeriod (g .turns) (g .x)) 0 (records (l .i) (g .rows .now)))
+    ap length (l .inv .2) ∙ length-sets (g .out .now) 0 (marked 0 (take (l .i) (g .marks .now)))
 
 returns : tie.Need-returns Inv-loop μ-loop
 returns c =
@@ -112,16 +92,15 @@ pick-spec =
     Inv-loop
     μ-loop
     loop-holds
-    row-requires
-    is-node-requires
+    mul-if1
+    shared-slice-read-if1
     add-i
     loop-less
     loop-again
-    add-store
+    add-i-2
     cast-store
     store-requires
     add-found
-    add-i-2
     loop-less-2
     loop-again-2
     same-length

@@ -9,6 +9,7 @@ use lib.ListN.{length}
 use Rattle.laws.proofs.Stores.{sets-front}
 use Rattle.answers.specs.Outcome.{accepted, countedView, limit}
 use Rattle.periods.specs.Period.{heldPeriod}
+use Rattle.periods.specs.Width.{wordOf}
 use Rattle.factors.specs.Factorization.{Factorization}
 use Rattle.repetitions.specs.Block.{Block}
 use Rattle.repetitions.specs.Judge.{splitOutcome}
@@ -35,8 +36,8 @@ module _ (w : List ℕ) (edition : ℕ) (ends : List ℕ) (blocks : ℕ) (e : ac
   size : (form : Form) → Fits form → length (page form w ends) ≡ lineBytes * blocks
   size form F = bytes form F w edition ends within (accepted-split w edition ends (blocks ∷ []) e .3) ∙ ap (λ (n : ℕ). lineBytes * n) (sym counted)
 
-judge-blocks-requires : tie.Need-judge-blocks-requires
-judge-blocks-requires c κs = search needs
+judge-requires : tie.Need-judge-requires
+judge-requires c κs = search needs
 
 enum-known-verdict : tie.Need-enum-known-verdict
 enum-known-verdict c = search needs
@@ -44,68 +45,77 @@ enum-known-verdict c = search needs
 enum-known-verdict-2 : tie.Need-enum-known-verdict-2
 enum-known-verdict-2 c = search needs
 
-cast-bytes : tie.Need-cast-bytes
-cast-bytes c = search needs
+cast-size : tie.Need-cast-size
+cast-size c = search needs
 
-mul-bytes : tie.Need-mul-bytes
-mul-bytes c = search needs
+mul-size : tie.Need-mul-size
+mul-size c = search needs
 
 returns : tie.Need-returns
 returns c =
-    let g = c .before .before .before .before .before .before .before .before .args in
-    let F = c .before .before .before .before .before .before .before .before .pre in
-    let e = ap countedView (sym (c .before .before .verdict2 .given .1)) ∙ c .before .before .before .before .judge-blocks .ensures in
-    page-answered (g .form) (g .w .now) (g .edition) (g .ends .now) (g .out .now) F _ _
-    (page-few (g .form) (g .w .now) (g .edition) (g .ends .now) (g .out .now) _ e (omega (arith, size (g .w .now) (g .edition) (g .ends .now) _ e (g .form) F, c .if1 .taken)))
-
-write-lines-requires : tie.Need-write-lines-requires
-write-lines-requires c κs =
     let g = c .before .before .before .before .before .before .before .before .before .args in
     let F = c .before .before .before .before .before .before .before .before .before .pre in
-    let e = ap countedView (sym (c .before .before .before .verdict2 .given .1)) ∙ c .before .before .before .before .before .judge-blocks .ensures in
-    let S = split (g .w .now) (g .edition) (g .ends .now) _ e in
-    ((within (g .w .now) (g .edition) (g .ends .now) _ e, S), omega (arith, counted (g .w .now) (g .edition) (g .ends .now) _ e, c .before .if1 .left), F)
+    let w = wordOf (g .wide) (g .bytes .now) (g .codes .now) in
+    let e = ap countedView (sym (c .before .before .verdict2 .given .1)) ∙ c .before .before .before .before .judge .ensures .0 in
+    page-answered (g .form) w (g .edition) (g .ends .now) (g .out .now) F _ _
+    (page-few (g .form) w (g .edition) (g .ends .now) (g .out .now) _ e (omega (arith, size w (g .edition) (g .ends .now) _ e (g .form) F, c .if1 .taken)))
 
-cast-t17 : tie.Need-cast-t17
-cast-t17 c =
-    let g = c .before .before .before .before .before .before .before .before .before .before .before .before .args in
-    let e = ap countedView (sym (c .before .before .before .before .before .before .verdict2 .given .1)) ∙ c .before .before .before .before .before .before .before .before .judge-blocks .ensures in
-    let few = blocks-half heldPeriod 2 (g .w .now) (omega arith) (length (g .w .now)) (g .ends .now) (split (g .w .now) (g .edition) (g .ends .now) _ e) in
-    omega (arith, few, counted (g .w .now) (g .edition) (g .ends .now) _ e, within (g .w .now) (g .edition) (g .ends .now) _ e)
+slice-aggregate-lines : tie.Need-slice-aggregate-lines
+slice-aggregate-lines c = search needs
+
+lines-requires : tie.Need-lines-requires
+lines-requires c κs =
+    let g = c .before .before .before .before .before .before .before .before .before .before .before .args in
+    let F = c .before .before .before .before .before .before .before .before .before .before .before .pre in
+    let w = wordOf (g .wide) (g .bytes .now) (g .codes .now) in
+    let e = ap countedView (sym (c .before .before .before .before .verdict2 .given .1)) ∙ c .before .before .before .before .before .before .judge .ensures .0 in
+    ((within w (g .edition) (g .ends .now) _ e, split w (g .edition) (g .ends .now) _ e), omega (arith, counted w (g .edition) (g .ends .now) _ e, c .before .before .if1 .left), F)
+
+cast-t22 : tie.Need-cast-t22
+cast-t22 c =
+    let g = c .before .before .before .before .before .before .before .before .before .before .before .before .before .before .before .args in
+    let F = c .before .before .before .before .before .before .before .before .before .before .before .before .before .before .before .pre in
+    let w = wordOf (g .wide) (g .bytes .now) (g .codes .now) in
+    let e = ap countedView (sym (c .before .before .before .before .before .before .before .before .verdict2 .given .1)) ∙ c .before .before .before .before .before .before .before .before .before .before .judge .ensures .0 in
+    let few = blocks-half heldPeriod 2 w (omega arith) (length w) (g .ends .now) (split w (g .edition) (g .ends .now) _ e) in
+    omega (arith, few, counted w (g .edition) (g .ends .now) _ e, within w (g .edition) (g .ends .now) _ e)
 
 returns-2 : tie.Need-returns-2
 returns-2 c =
-    let g = c .before .before .before .before .before .before .before .args in
-    let F = c .before .before .before .before .before .before .before .pre in
-    page-answered (g .form) (g .w .now) (g .edition) (g .ends .now) (g .out .now) F _ _
-    (page-refused (g .form) (g .w .now) (g .edition) (g .ends .now) (g .out .now) _ _ (ap countedView (sym (c .before .verdict .given .1)) ∙ c .before .before .before .judge-blocks .ensures))
+    let g = c .before .before .before .before .before .before .before .before .args in
+    let F = c .before .before .before .before .before .before .before .before .pre in
+    let w = wordOf (g .wide) (g .bytes .now) (g .codes .now) in
+    page-answered (g .form) w (g .edition) (g .ends .now) (g .out .now) F _ _
+    (page-refused (g .form) w (g .edition) (g .ends .now) (g .out .now) _ _ (ap countedView (sym (c .before .verdict .given .1)) ∙ c .before .before .before .judge .ensures .0))
 
 same-length : tie.Need-same-length
 same-length c = search needs
 
 returns-3 : tie.Need-returns-3
 returns-3 c =
-    let g = c .before .before .before .before .before .before .before .before .before .before .before .before .args in
-    let F = c .before .before .before .before .before .before .before .before .before .before .before .before .pre in
-    let e = ap countedView (sym (c .before .before .before .before .before .before .verdict2 .given .1)) ∙ c .before .before .before .before .before .before .before .before .judge-blocks .ensures in
-    let n = size (g .w .now) (g .edition) (g .ends .now) _ e (g .form) F in
-    let room : length (page (g .form) (g .w .now) (g .ends .now)) ≤ length (g .out .now) = omega (arith, n, c .before .before .before .before .if1 .left) in
-    let P = page-written (g .form) (g .w .now) (g .edition) (g .ends .now) (g .out .now) _ e room in
-    page-answered (g .form) (g .w .now) (g .edition) (g .ends .now) (g .out .now) F _ _
-    (ap (λ (b : ℕ). accepted (b ∷ [])) (sym n) ∙ P .0, c .before .before .write-lines .ensures ∙ sets-front (g .out .now) (page (g .form) (g .w .now) (g .ends .now)) room ∙ P .1)
+    let g = c .before .before .before .before .before .before .before .before .before .before .before .before .before .before .before .args in
+    let F = c .before .before .before .before .before .before .before .before .before .before .before .before .before .before .before .pre in
+    let w = wordOf (g .wide) (g .bytes .now) (g .codes .now) in
+    let e = ap countedView (sym (c .before .before .before .before .before .before .before .before .verdict2 .given .1)) ∙ c .before .before .before .before .before .before .before .before .before .before .judge .ensures .0 in
+    let n = size w (g .edition) (g .ends .now) _ e (g .form) F in
+    let room : length (page (g .form) w (g .ends .now)) ≤ length (g .out .now) = omega (arith, n, c .before .before .before .before .before .before .if1 .left) in
+    let P = page-written (g .form) w (g .edition) (g .ends .now) (g .out .now) _ e room in
+    page-answered (g .form) w (g .edition) (g .ends .now) (g .out .now) F _ _
+    (ap (λ (b : ℕ). accepted (b ∷ [])) (sym n) ∙ P .0, c .before .before .before .lines .ensures ∙ sets-front (g .out .now) (page (g .form) w (g .ends .now)) room ∙ P .1)
 
 pub write-spec : {M : Type 1} → statement M
 write-spec =
     tie.close
     (tie.spec
-    judge-blocks-requires
+    judge-requires
     enum-known-verdict
     enum-known-verdict-2
-    cast-bytes
-    mul-bytes
+    cast-size
+    mul-size
     returns
-    write-lines-requires
-    cast-t17
+    slice-aggregate-lines
+    lines-requires
+    cast-t22
     returns-2
     same-length
     returns-3)

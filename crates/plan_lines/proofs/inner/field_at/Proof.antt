@@ -6,7 +6,6 @@ use borrow.Author.Needs.{needs}
 use Rattle.decimals.specs.Decimal.{field}
 use Rattle.decimals.specs.Read.{numberView}
 use Rattle.decimals.proofs.Claims.{number-some, number-none}
-use Rattle.plan_lines.specs.Line.{width}
 use Rattle.plan_lines.proofs.Loops.{field-is, field-other}
 use Rattle.plan_lines.proofs.inner.field_at.Statement.{statement}
 use Rattle.plan_lines.proofs.inner.field_at.Tie as tie
@@ -18,7 +17,7 @@ shared-slice-read-if1 : tie.Need-shared-slice-read-if1
 shared-slice-read-if1 c = search needs
 
 returns : tie.Need-returns
-returns c = let g = c .before .before .before .args in field-other (g .s .now) (g .at) (λ e. omega (arith, e))
+returns c = let g = c .before .before .before .args in field-other (g .width) (g .s .now) (g .at) (λ e. omega (arith, e))
 
 read-requires : tie.Need-read-requires
 read-requires c κs = search needs
@@ -32,14 +31,14 @@ enum-told c = search needs
 returns-2 : tie.Need-returns-2
 returns-2 c =
     let g = c .before .before .before .before .before .before .before .args in
-    field-is (g .s .now) (g .at) true (omega arith)
-    (number-some (field (g .s .now) (g .at) width) (c .before .x .given .0 .0) (sym (ap numberView (c .before .x .given .1)) ∙ c .before .before .before .read .ensures) .0)
+    field-is (g .width) (g .s .now) (g .at) true (omega arith)
+    (number-some (field (g .s .now) (g .at) (g .width)) (c .before .x .given .0 .0) (sym (ap numberView (c .before .x .given .1)) ∙ c .before .before .before .read .ensures) .0)
 
 returns-3 : tie.Need-returns-3
 returns-3 c =
     let g = c .before .before .before .before .before .before .args in
-    field-is (g .s .now) (g .at) false (omega arith)
-    (number-none (field (g .s .now) (g .at) width) (sym (ap numberView (c .enum-told .given .1)) ∙ c .before .before .read .ensures))
+    field-is (g .width) (g .s .now) (g .at) false (omega arith)
+    (number-none (field (g .s .now) (g .at) (g .width)) (sym (ap numberView (c .enum-told .given .1)) ∙ c .before .before .read .ensures))
 
 pub field-at-spec : {M : Type 1} → statement M
 field-at-spec =

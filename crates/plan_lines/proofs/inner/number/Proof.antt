@@ -5,7 +5,6 @@ use lib.Dec.{T}
 use Rattle.decimals.specs.Decimal.{field}
 use Rattle.decimals.specs.Read.{numberView}
 use Rattle.decimals.proofs.Claims.{number-some, number-none}
-use Rattle.plan_lines.specs.Line.{width}
 use Rattle.plan_lines.proofs.inner.number.Statement.{statement}
 use Rattle.plan_lines.proofs.inner.number.Tie as tie
 
@@ -21,12 +20,12 @@ enum-told c = search needs
 returns : tie.Need-returns
 returns c =
     let g = c .before .before .before .before .before .args in
-    number-some (field (g .s .now) (g .at) width) (c .before .x .given .0 .0) (sym (ap numberView (c .before .x .given .1)) ∙ c .before .before .before .read .ensures) .1
+    number-some (field (g .s .now) (g .at) (g .width)) (c .before .x .given .0 .0) (sym (ap numberView (c .before .x .given .1)) ∙ c .before .before .before .read .ensures) .1
 
 returns-2 : tie.Need-returns-2
 returns-2 c =
     let a = c .before .before .before .before in
-    absurd (subst T (number-none (field (a .args .s .now) (a .args .at) width) (sym (ap numberView (c .enum-told .given .1)) ∙ c .before .before .read .ensures)) (a .pre .1))
+    absurd (subst T (number-none (field (a .args .s .now) (a .args .at) (a .args .width)) (sym (ap numberView (c .enum-told .given .1)) ∙ c .before .before .read .ensures)) (a .pre .2))
 
 pub number-spec : {M : Type 1} → statement M
 number-spec = tie.close (tie.spec read-requires enum-known-x enum-told returns returns-2)

@@ -1,34 +1,44 @@
 -- `plan_lines::inner::read_ends` meets its contract: before the turn for end k + 1 the first k are in the table. Assumes nothing.
-use mathlib.Core.Path.{_≡_, refl, ap, _∙_}
-use mathlib.Core.List.{_++_}
-use Prim.Native.Nat.{ℕ, _-_, _≤_}
+use mathlib.Core.Path.{_≡_, refl, sym, ap, _∙_, subst}
+use mathlib.Core.List.{List, _++_}
+use Prim.Native.Nat.{ℕ, _-_, _+_, _≤_, _<_}
 use native.Mathlib.Omega.{arith}
-use lib.ListN.{length, drop, length-set}
-use Rattle.plan_lines.specs.Line.{placeOfEnd, endsIn}
-use Rattle.plan_lines.proofs.Loops.{field-digits, end-stands, read-ends-none, read-ends-more}
+use lib.Dec.{T}
+use lib.ListN.{length, set, drop, length-set}
+use Rattle.decimals.specs.Decimal.{digits?, field}
+use Rattle.plan_lines.specs.Line.{step, placeOfEnd, numberAt, endsIn}
+use Rattle.plan_lines.proofs.Loops.{end-inside, field-digits, end-stands, read-ends-none, read-ends-more}
 use Rattle.plan_lines.proofs.inner.read_ends.Statement.{statement}
 use Rattle.plan_lines.proofs.inner.read_ends.Tie as tie
 
 abbrev Inv-loop : tie.InvT-loop
-Inv-loop s count table₀ k₀ table k = (k ≤ count) × (length table ≡ length table₀) × (table ≡ endsIn s k ++ drop k table₀)
+Inv-loop s width count table₀ k₀ table k = (k ≤ count) × (length table ≡ length table₀) × (table ≡ endsIn width s k ++ drop k table₀)
 
 abbrev μ-loop : tie.MeasureT-loop
-μ-loop s count table₀ k₀ table k = count - k
+μ-loop s width count table₀ k₀ table k = count - k
 
 loop-holds : tie.Need-loop-holds Inv-loop μ-loop
-loop-holds c = (omega arith, refl, read-ends-none _ _)
+loop-holds c = (omega arith, refl, read-ends-none _ _ _)
 
-mul-number : tie.Need-mul-number Inv-loop μ-loop
-mul-number c = omega arith
+-- the next end stands in the bytes
+inside : (c : tie.At-loop Inv-loop μ-loop) → c .loop .k < c .before .before .before .args .count
+    → placeOfEnd (c .before .before .before .args .width) (c .loop .k) + step (c .before .before .before .args .width) ≤ length (c .before .before .before .args .s .now)
+inside c h = let g = c .before .before .before .args in omega (arith, end-inside (g .width) (g .count) (c .loop .k) h, c .before .before .before .pre .0)
 
-add-number : tie.Need-add-number Inv-loop μ-loop
-add-number c = omega arith
+bytes-for-requires : tie.Need-bytes-for-requires Inv-loop μ-loop
+bytes-for-requires c κs = omega (arith, inside (c .before) (omega arith))
 
 number-requires : tie.Need-number-requires Inv-loop μ-loop
 number-requires c κs =
-    let a = c .before .before .before .before in
-    let k : ℕ = c .before .loop .k in
-    (omega arith, field-digits (a .args .s .now) (placeOfEnd k) (end-stands (a .args .s .now) (a .args .count) k (a .pre .1) (omega arith)))
+    let t = c .before .before in
+    let a = t .before .before .before in
+    let g = a .args in
+    let b = c .bytes-for .ensures in (
+      omega (arith, b, inside t (omega arith)),
+      a .pre .1,
+      subst (λ (at : ℕ). T (digits? (field (g .s .now) at (g .width)))) (sym b)
+          (field-digits (g .width) (g .s .now) (placeOfEnd (g .width) (t .loop .k)) (end-stands (g .width) (g .s .now) (g .count) (t .loop .k) (a .pre .2) (omega arith))),
+    )
 
 mul-table : tie.Need-mul-table Inv-loop μ-loop
 mul-table c = omega arith
@@ -44,11 +54,14 @@ loop-less c = omega arith
 
 loop-again : tie.Need-loop-again Inv-loop μ-loop
 loop-again c =
-    let l = c .before .before in
-    let g = l .before .before .before .args in (
+    let l = c .before .before .before in
+    let g = l .before .before .before .args in
+    let e = c .number .ensures ∙ ap (numberAt (g .width) (g .s .now)) (c .before .bytes-for .ensures) in (
       omega arith,
       length-set (l .loop .table) (l .loop .k) (c .number .result) ∙ l .loop .inv .1,
-      rw (c .number .ensures, l .loop .inv .2) (read-ends-more (g .s .now) (g .table .now) (l .loop .k) (omega arith)),
+      ap (set (l .loop .table) (l .loop .k)) e
+          ∙ ap (λ (t : List ℕ). set t (l .loop .k) (numberAt (g .width) (g .s .now) (placeOfEnd (g .width) (l .loop .k)))) (l .loop .inv .2)
+          ∙ read-ends-more (g .width) (g .s .now) (g .table .now) (l .loop .k) (omega arith),
     )
 
 same-length : tie.Need-same-length Inv-loop μ-loop
@@ -58,7 +71,7 @@ returns : tie.Need-returns Inv-loop μ-loop
 returns c =
     let g = c .before .before .before .before .args in
     let e : c .before .loop .k ≡ g .count = omega arith in
-    c .before .loop .inv .2 ∙ ap (λ (j : ℕ). endsIn (g .s .now) j ++ drop j (g .table .now)) e
+    c .before .loop .inv .2 ∙ ap (λ (j : ℕ). endsIn (g .width) (g .s .now) j ++ drop j (g .table .now)) e
 
 pub read-ends-spec : {M : Type 1} → statement M
 read-ends-spec =
@@ -67,8 +80,7 @@ read-ends-spec =
     Inv-loop
     μ-loop
     loop-holds
-    mul-number
-    add-number
+    bytes-for-requires
     number-requires
     mul-table
     slice-write-table

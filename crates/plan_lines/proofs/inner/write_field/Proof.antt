@@ -6,7 +6,7 @@ use borrow.Author.Needs.{needs}
 use lib.ListN.{set, length-set}
 use lib.Seq.{sets}
 use Rattle.decimals.specs.Decimal.{comma, digits}
-use Rattle.plan_lines.specs.Line.{width}
+use Rattle.decimals.proofs.Loops.{power-positive}
 use Rattle.plan_lines.proofs.inner.write_field.Statement.{statement}
 use Rattle.plan_lines.proofs.inner.write_field.Tie as tie
 
@@ -17,7 +17,9 @@ slice-write-out : tie.Need-slice-write-out
 slice-write-out c = search needs
 
 write-requires : tie.Need-write-requires
-write-requires c κs = search needs
+write-requires c κs =
+    let g = c .before .before .args in
+    (search needs, search needs, omega (arith, power-positive (g .width)))
 
 same-length : tie.Need-same-length
 same-length c =
@@ -28,7 +30,7 @@ returns : tie.Need-returns
 returns c =
     let g = c .before .before .before .before .before .args in
     let e : g .at ≡ suc (g .at - 1) = omega arith in
-    c .before .before .write .ensures ∙ ap (λ (j : ℕ). sets (set (g .out .now) (g .at - 1) comma) j (digits width (g .x))) e
+    c .before .before .write .ensures ∙ ap (λ (j : ℕ). sets (set (g .out .now) (g .at - 1) comma) j (digits (g .width) (g .x))) e
 
 pub write-field-spec : {M : Type 1} → statement M
 write-field-spec = tie.close (tie.spec sub-out slice-write-out write-requires same-length returns)

@@ -6,6 +6,7 @@ use Prim.Native.Nat.{ℕ, _-_, _≤_, _<_}
 use native.Mathlib.Omega.{arith}
 use borrow.Author.Needs.{needs}
 use lib.ListN.{length, getD}
+use Rattle.answers.specs.Outcome.{limit}
 use Rattle.factors.specs.Verdict.{badEnd?}
 use Rattle.factors.proofs.Judging.{end-fits, judgedFrom, judged-bad-end, judged-block, judged-unfinished, judged-finished}
 use Rattle.plans.specs.Calls.{anyPiece, plausible}
@@ -14,7 +15,7 @@ use Rattle.plans.proofs.inner.judge.Statement.{statement}
 use Rattle.plans.proofs.inner.judge.Tie as tie
 
 abbrev Inv-loop : tie.InvT-loop
-Inv-loop n ends len before₀ k₀ before k = (k ≤ length ends) × (k ≤ before) × (before ≤ n) × (judgedFrom anyPiece n ends k before ≡ plausible n ends)
+Inv-loop n ends len before₀ k₀ before k = (k ≤ length ends) × (k ≤ before) × (before ≤ n) × (judgedFrom anyPiece n ends k before ≡ plausible limit n ends)
 
 abbrev μ-loop : tie.MeasureT-loop
 μ-loop n ends len before₀ k₀ before k = length ends - k
@@ -33,10 +34,10 @@ abbrev end : Turn → ℕ
 end c = getD (ends-given c) (c .loop .k) 0
 
 returns : tie.Need-returns Inv-loop μ-loop
-returns c = let g = c .before .before .args in sym (judge-too-long (g .n) (g .ends .now) (c .if1 .taken))
+returns c = let g = c .before .before .args in sym (judge-too-long limit (g .n) (g .ends .now) (c .if1 .taken))
 
 loop-holds : tie.Need-loop-holds Inv-loop μ-loop
-loop-holds c = let g = c .before .before .args in (omega arith, omega arith, omega arith, judge-first (g .n) (g .ends .now) (omega arith))
+loop-holds c = let g = c .before .before .args in (omega arith, omega arith, omega arith, judge-first limit (g .n) (g .ends .now) (omega arith))
 
 mul-end : tie.Need-mul-end Inv-loop μ-loop
 mul-end c = omega arith

@@ -20,6 +20,9 @@ slice-aggregate-list c = search needs
 slice-aggregate-list-2 : tie.Need-slice-aggregate-list-2
 slice-aggregate-list-2 c = search needs
 
+slice-aggregate-list-3 : tie.Need-slice-aggregate-list-3
+slice-aggregate-list-3 c = search needs
+
 list-requires : tie.Need-list-requires
 list-requires c κs = search needs
 
@@ -28,9 +31,9 @@ slice-aggregate-write-text c = search needs
 
 write-text-requires : tie.Need-write-text-requires
 write-text-requires c κs =
-    let w = c .before .before .before .before .before .before .before .before .before .args .w .now in
+    let w = c .before .before .before .before .before .before .before .before .before .before .args .w .now in
     let s = c .before .before .before .before .list in
-    runs-stored w table-lent (s .last .1 .1 .0) (s .result) (omega arith) (length-replicate {A = ℕ} (stride * recordLimit) 0) (s .kept .1 .1 .0) (s .ensures .0) (s .ensures .1)
+    runs-stored w table-lent (s .last .1 .1 .1 .1 .1 .0) (s .result) (omega arith) (length-replicate {A = ℕ} (stride * recordLimit) 0) (s .kept .1 .1 .1 .1 .1 .0) (s .ensures .0) (s .ensures .1)
 
 same-length : tie.Need-same-length
 same-length c = search needs
@@ -44,6 +47,7 @@ write-all-spec =
     (tie.spec
     slice-aggregate-list
     slice-aggregate-list-2
+    slice-aggregate-list-3
     list-requires
     slice-aggregate-write-text
     write-text-requires

@@ -4,7 +4,9 @@ use mathlib.Core.Path.{_≡_, sym, ap, _∙_, subst}
 use mathlib.Core.List.{List}
 use Prim.Native.Nat.{ℕ, _+_, _-_, _≤_, _<_}
 use native.Mathlib.Omega.{arith}
+use borrow.Author.Needs.{needs}
 use lib.ListN.{length, getD, length-set}
+use Rattle.periods.specs.Width.{wordOf}
 use Rattle.runs.specs.declared.Record.{Record}
 use Rattle.runs.specs.Table.{runsOf, recordAt}
 use Rattle.factors.specs.Factorization.{Choice, choiceOf}
@@ -18,38 +20,45 @@ use Rattle.slots.proofs.inner.visit.Statement.{statement}
 use Rattle.slots.proofs.inner.visit.Tie as tie
 
 abbrev Inv-loop : tie.InvT-loop
-Inv-loop w runs choice e lives work₀ n low best₀ kept₀ k₀ work best kept k = (k ≤ lives) × Turn (choiceOf choice) w runs e lives work₀ work k kept k best
+Inv-loop bytes codes wide runs choice e lives work₀ n low best₀ kept₀ k₀ work best kept k = (k ≤ lives) × Turn (choiceOf choice) (wordOf wide bytes codes) runs e lives work₀ work k kept k best
 
 abbrev μ-loop : tie.MeasureT-loop
-μ-loop w runs choice e lives work₀ n low best₀ kept₀ k₀ work best kept k = lives - k
+μ-loop bytes codes wide runs choice e lives work₀ n low best₀ kept₀ k₀ work best kept k = lives - k
 
 -- at the head of the loop: what was lent, and what the caller shows
 abbrev Head : Type 0
 Head = tie.At-loop Inv-loop μ-loop
 
 abbrev word : Head → List ℕ
-word c = c .before .before .before .before .args .w .now
+word c = let g = c .before .before .before .before .before .before .args in wordOf (g .wide) (g .bytes .now) (g .codes .now)
 
 abbrev table : Head → List ℕ
-table c = c .before .before .before .before .args .runs .now
+table c = c .before .before .before .before .before .before .args .runs .now
 
 abbrev chosen : Head → Choice
-chosen c = choiceOf (c .before .before .before .before .args .choice)
+chosen c = choiceOf (c .before .before .before .before .before .before .args .choice)
 
 abbrev boundary : Head → ℕ
-boundary c = c .before .before .before .before .args .e
+boundary c = c .before .before .before .before .before .before .args .e
 
 abbrev lives : Head → ℕ
-lives c = c .before .before .before .before .args .lives
+lives c = c .before .before .before .before .before .before .args .lives
 
 abbrev entered : Head → List ℕ
-entered c = c .before .before .before .before .args .work .now
+entered c = c .before .before .before .before .before .before .args .work .now
+
+-- the word's length
+abbrev size : Head → ℕ
+size c = c .before .length .result
+
+size-is : (c : Head) → size c ≡ length (word c)
+size-is c = c .before .length .ensures
 
 abbrev place : Head → ℕ
-place c = listRow (length (word c)) + c .loop .k
+place c = listRow (size c) + c .loop .k
 
 found : (c : Head) → Tabled (word c) (table c)
-found c = tabled (word c) (table c) (c .before .before .before .before .pre .0 .1)
+found c = tabled (word c) (table c) (c .before .before .before .before .before .before .pre .0 .1)
 
 turn : (c : Head) → Turn (chosen c) (word c) (table c) (boundary c) (lives c) (entered c) (c .loop .work) (c .loop .k) (c .loop .kept) (c .loop .k) (c .loop .best)
 turn c = c .loop .inv .1
@@ -60,22 +69,29 @@ long c = turn c .rest .0
 -- the best start so far is e or below
 best-small : (c : Head) → c .loop .best ≤ boundary c
 best-small c =
-    let p = c .before .before .before .before .pre in
+    let p = c .before .before .before .before .before .before .pre in
     best-bound (chosen c) (word c) (table c) (found c) (boundary c) (p .0 .2) (p .0 .3) (lives c) (p .0 .4) (entered c) (omega arith) (p .1)
     (c .loop .work) (c .loop .k) (c .loop .kept) (c .loop .k) (c .loop .best) (turn c)
 
 -- the run at hand
 number-small : (c : Head) → c .loop .k < lives c → getD (c .loop .work) (place c) 0 < length (runsOf (word c))
 number-small c h =
-    let p = c .before .before .before .before .pre in
-    number (chosen c) (word c) (table c) (found c) (boundary c) (p .0 .2) (p .0 .3) (lives c) (p .0 .4) (entered c) (omega arith) (p .1)
-    (c .loop .work) (c .loop .k) (c .loop .kept) (c .loop .best) (turn c) h
+    let p = c .before .before .before .before .before .before .pre in
+    subst (λ (m : ℕ). getD (c .loop .work) (listRow m + c .loop .k) 0 < length (runsOf (word c))) (sym (size-is c))
+    (number (chosen c) (word c) (table c) (found c) (boundary c) (p .0 .2) (p .0 .3) (lives c) (p .0 .4) (entered c) (omega arith) (p .1)
+    (c .loop .work) (c .loop .k) (c .loop .kept) (c .loop .best) (turn c) h)
+
+row-is : (c : Head) (r : Record) → r ≡ recordAt (table c) (getD (c .loop .work) (place c) 0) → r ≡ recordAt (table c) (getD (c .loop .work) (listRow (length (word c)) + c .loop .k) 0)
+row-is c r = subst (λ (m : ℕ). r ≡ recordAt (table c) (getD (c .loop .work) (listRow m + c .loop .k) 0)) (size-is c)
 
 run-numbers : (c : Head) → c .loop .k < lives c → (r : Record) → r ≡ recordAt (table c) (getD (c .loop .work) (place c) 0) → Numbers (word c) (boundary c) r
-run-numbers c h =
-    let p = c .before .before .before .before .pre in
+run-numbers c h r q =
+    let p = c .before .before .before .before .before .before .pre in
     numbers (chosen c) (word c) (table c) (found c) (boundary c) (p .0 .2) (p .0 .3) (lives c) (p .0 .4) (entered c) (omega arith) (p .1)
-    (c .loop .work) (c .loop .k) (c .loop .kept) (c .loop .best) (turn c) h
+    (c .loop .work) (c .loop .k) (c .loop .kept) (c .loop .best) (turn c) h r (row-is c r q)
+
+length-requires : tie.Need-length-requires Inv-loop μ-loop
+length-requires c κs = search needs
 
 add-low : tie.Need-add-low Inv-loop μ-loop
 add-low c = omega arith
@@ -85,9 +101,10 @@ mul-low c = omega arith
 
 loop-holds : tie.Need-loop-holds Inv-loop μ-loop
 loop-holds c =
-    let g = c .before .before .before .args in
-    let p = c .before .before .before .pre in
-    (omega arith, turn-starts (choiceOf (g .choice)) (g .w .now) (g .runs .now) (tabled (g .w .now) (g .runs .now) (p .0 .1)) (g .e) (p .0 .2) (p .0 .3) (g .lives) (p .0 .4) (g .work .now) (omega arith) (p .1))
+    let g = c .before .before .before .before .before .args in
+    let p = c .before .before .before .before .before .pre in
+    let w = wordOf (g .wide) (g .bytes .now) (g .codes .now) in
+    (omega arith, turn-starts (choiceOf (g .choice)) w (g .runs .now) (tabled w (g .runs .now) (p .0 .1)) (g .e) (p .0 .2) (p .0 .3) (g .lives) (p .0 .4) (g .work .now) (omega arith) (p .1))
 
 add-i : tie.Need-add-i Inv-loop μ-loop
 add-i c = omega arith
@@ -105,7 +122,7 @@ cast-row : tie.Need-cast-row Inv-loop μ-loop
 cast-row c = omega (arith, number-small (c .before .before) (omega arith), found (c .before .before) .few)
 
 row-requires : tie.Need-row-requires Inv-loop μ-loop
-row-requires c κs = let t = c .before .before in omega (arith, number-small t (omega arith), t .before .before .before .before .pre .0 .1 .0)
+row-requires c κs = let t = c .before .before in omega (arith, number-small t (omega arith), t .before .before .before .before .before .before .pre .0 .1 .0)
 
 cast-if1 : tie.Need-cast-if1 Inv-loop μ-loop
 cast-if1 c = omega (arith, run-numbers (c .before .before .before .before) (omega arith) _ (c .before .row .ensures) .ends)
@@ -116,10 +133,10 @@ loop-less c = omega arith
 loop-again : tie.Need-loop-again Inv-loop μ-loop
 loop-again c =
     let t = c .before .before .before .before .before in
-    let p = t .before .before .before .before .pre in (
+    let p = t .before .before .before .before .before .before .pre in (
       omega arith,
       step-over (chosen t) (word t) (table t) (found t) (boundary t) (p .0 .2) (p .0 .3) (lives t) (p .0 .4) (entered t) (omega arith) (p .1)
-          (t .loop .work) (t .loop .k) (t .loop .kept) (t .loop .best) (turn t) (omega arith) _ (c .before .before .row .ensures) (c .if1 .taken),
+          (t .loop .work) (t .loop .k) (t .loop .kept) (t .loop .best) (turn t) (omega arith) _ (row-is t _ (c .before .before .row .ensures)) (c .if1 .taken),
     )
 
 add-work : tie.Need-add-work Inv-loop μ-loop
@@ -149,12 +166,13 @@ mul-take c = omega (arith, run-numbers (c .before .before .before .before .befor
 take-requires : tie.Need-take-requires Inv-loop μ-loop
 take-requires c κs =
     let t = c .before .before .before .before .before .before .before .before in
-    let p = t .before .before .before .before .pre in
+    let p = t .before .before .before .before .before .before .pre in
     let q = run-numbers t (omega arith) _ (c .before .before .before .before .before .row .ensures) in (
-      (omega arith, omega (arith, q .unit), omega (arith, q .small), omega (arith, q .starts, q .begun), p .0 .3, omega (arith, length-set (t .loop .work) (listRow (length (word t)) + t .loop .kept) (getD (t .loop .work) (place t) 0), long t)),
+      (omega arith, omega (arith, q .unit), omega (arith, q .small), omega (arith, q .starts, q .begun), omega arith, omega (arith, length-set (t .loop .work) (listRow (size t) + t .loop .kept) (getD (t .loop .work) (place t) 0), long t)),
       omega (arith, best-small t),
-      step-reads (chosen t) (word t) (table t) (found t) (boundary t) (p .0 .2) (p .0 .3) (lives t) (p .0 .4) (entered t) (omega arith) (p .1)
-          (t .loop .work) (t .loop .k) (t .loop .kept) (t .loop .best) (turn t) (omega arith) _ (c .before .before .before .before .before .row .ensures) (c .before .before .before .if1 .left),
+      rw (size-is t)
+          (step-reads (chosen t) (word t) (table t) (found t) (boundary t) (p .0 .2) (p .0 .3) (lives t) (p .0 .4) (entered t) (omega arith) (p .1)
+          (t .loop .work) (t .loop .k) (t .loop .kept) (t .loop .best) (turn t) (omega arith) _ (row-is t _ (c .before .before .before .before .before .row .ensures)) (c .before .before .before .if1 .left)),
     )
 
 loop-less-2 : tie.Need-loop-less-2 Inv-loop μ-loop
@@ -163,10 +181,10 @@ loop-less-2 c = omega arith
 loop-again-2 : tie.Need-loop-again-2 Inv-loop μ-loop
 loop-again-2 c =
     let t = c .before .before .before .before .before .before .before .before .before .before .before in
-    let p = t .before .before .before .before .pre in (
+    let p = t .before .before .before .before .before .before .pre in (
       omega arith,
       step-take (chosen t) (word t) (table t) (found t) (boundary t) (p .0 .2) (p .0 .3) (lives t) (p .0 .4) (entered t) (omega arith) (p .1)
-          (t .loop .work) (t .loop .k) (t .loop .kept) (t .loop .best) (turn t) (omega arith) _ (c .before .before .before .before .before .before .before .before .row .ensures) (c .before .before .before .before .before .before .if1 .left) _ _ (c .before .before .take .ensures .1) (c .before .before .take .ensures .0),
+          (t .loop .work) (t .loop .k) (t .loop .kept) (t .loop .best) (turn t) (omega arith) _ (row-is t _ (c .before .before .before .before .before .before .before .before .row .ensures)) (c .before .before .before .before .before .before .if1 .left) _ _ (rw (size-is t) at (c .before .before .take .ensures .1)) (rw (size-is t) at (c .before .before .take .ensures .0)),
     )
 
 mul-size : tie.Need-mul-size Inv-loop μ-loop
@@ -199,18 +217,18 @@ all-taken c h =
 same-length : tie.Need-same-length Inv-loop μ-loop
 same-length c =
     let t = c .before .before .before .before .before .before .before in
-    let p = t .before .before .before .before .pre in
-    ap length (c .before .before .offer .ensures) ∙ rest-offered (chosen t) (length (word t)) (boundary t) (length (word t) + 1 + boundary t) (getD (t .loop .work) (t .loop .best) 0 + 1) (t .loop .best) (entered t) (t .loop .work) (omega (arith, p .0 .3)) (omega (arith, p .0 .3)) (turn t .rest) .0
+    let p = t .before .before .before .before .before .before .pre in
+    ap length (c .before .before .offer .ensures) ∙ rest-offered (chosen t) (length (word t)) (boundary t) (size t + 1 + boundary t) (getD (t .loop .work) (t .loop .best) 0 + 1) (t .loop .best) (entered t) (t .loop .work) (omega (arith, p .0 .3)) (omega (arith, p .0 .3)) (turn t .rest) .0
 
 returns : tie.Need-returns Inv-loop μ-loop
 returns c =
     let t = c .before .before .before .before .before .before .before in
-    let p = t .before .before .before .before .pre in (
+    let p = t .before .before .before .before .before .before .pre in (
       (
         omega (arith, turn t .listing .fewer, t .loop .inv .0),
-        taken-reached (chosen t) (word t) (table t) (found t) (omega arith) (boundary t) (p .0 .2) (p .0 .3) (lives t) (entered t) (p .1) (t .loop .work) (t .loop .kept) (t .loop .best) (all-taken t (omega arith)) (best-small t) (omega arith) (c .before .before .before .before .if2 .taken) _ (c .before .before .offer .ensures),
+        taken-reached (chosen t) (word t) (table t) (found t) (omega arith) (boundary t) (p .0 .2) (p .0 .3) (lives t) (entered t) (p .1) (t .loop .work) (t .loop .kept) (t .loop .best) (all-taken t (omega arith)) (best-small t) (omega arith) (c .before .before .before .before .if2 .taken) _ (rw (size-is t) at (c .before .before .offer .ensures)),
       ),
-      subst (RestKept (length (word t)) (entered t)) (sym (c .before .before .offer .ensures)) (rest-offered (chosen t) (length (word t)) (boundary t) (length (word t) + 1 + boundary t) (getD (t .loop .work) (t .loop .best) 0 + 1) (t .loop .best) (entered t) (t .loop .work) (omega (arith, p .0 .3)) (omega (arith, p .0 .3)) (turn t .rest)),
+      subst (RestKept (length (word t)) (entered t)) (sym (c .before .before .offer .ensures)) (rest-offered (chosen t) (length (word t)) (boundary t) (size t + 1 + boundary t) (getD (t .loop .work) (t .loop .best) 0 + 1) (t .loop .best) (entered t) (t .loop .work) (omega (arith, p .0 .3)) (omega (arith, p .0 .3)) (turn t .rest)),
     )
 
 same-length-2 : tie.Need-same-length-2 Inv-loop μ-loop
@@ -219,7 +237,7 @@ same-length-2 c = long (c .before .before .before)
 returns-2 : tie.Need-returns-2 Inv-loop μ-loop
 returns-2 c =
     let t = c .before .before .before in
-    let p = t .before .before .before .before .pre in (
+    let p = t .before .before .before .before .before .before .pre in (
       (
         omega (arith, turn t .listing .fewer, t .loop .inv .0),
         taken-none (chosen t) (word t) (table t) (found t) (omega arith) (boundary t) (p .0 .2) (p .0 .3) (lives t) (entered t) (p .1) (t .loop .work) (t .loop .kept) (t .loop .best) (all-taken t (omega arith)) (best-small t) (c .if2 .left),
@@ -233,6 +251,7 @@ visit-spec =
     (tie.spec
     Inv-loop
     μ-loop
+    length-requires
     add-low
     mul-low
     loop-holds

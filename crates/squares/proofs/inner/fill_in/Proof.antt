@@ -4,14 +4,15 @@ use mathlib.Core.Path.{_≡_, _∙_}
 use mathlib.Core.List.{List}
 use Prim.Native.Nat.{ℕ, _+_, _-_, _*_}
 use native.Mathlib.Omega.{arith}
-use borrow.Author.Needs.{needs}
 use lib.ListN.{length, length-take}
 use Rattle.periods.specs.Square.{square?}
+use Rattle.periods.specs.Width.{wordOf}
 use Rattle.factors.specs.Factorization.{choiceOf}
 use Rattle.factors.specs.Table.{rows}
 use Rattle.factors.proofs.Lent.{lent, lent-length}
 use Rattle.factorizer.specs.Piece.{piece?}
-use Rattle.squares.proofs.Settling.{listed-runs, lent-filled}
+use Rattle.squares.proofs.Settling.{listed-runs, workable-long, lent-filled}
+use borrow.Author.Needs.{needs}
 use Rattle.squares.proofs.inner.fill_in.Statement.{statement}
 use Rattle.squares.proofs.inner.fill_in.Tie as tie
 
@@ -20,16 +21,26 @@ abbrev Listed : Type 0
 Listed = tie.After-list
 
 abbrev word : Listed → List ℕ
-word c = c .before .before .before .before .before .before .args .w .now
+word c = let g = c .before .before .before .before .before .before .before .before .args in wordOf (g .wide) (g .bytes .now) (g .codes .now)
 
 abbrev entered : Listed → List ℕ
-entered c = c .before .before .before .before .before .before .args .work .now
+entered c = c .before .before .before .before .before .before .before .before .args .work .now
 
-fits : (c : Listed) → length (c .list .last .1 .0) ≡ rows * (length (word c) + 1) - 0
-fits c = c .list .kept .1 .0 ∙ length-take (rows * (length (word c) + 1) - 0) (entered c) ∙ omega arith
+-- the word's length
+abbrev size : Listed → ℕ
+size c = c .before .before .before .length .result
 
-left-long : (c : Listed) → length (lent (entered c) 0 (rows * (length (word c) + 1)) (c .list .last .1 .0)) ≡ length (entered c)
-left-long c = lent-length (entered c) 0 (rows * (length (word c) + 1)) (c .list .last .1 .0) (omega arith) (omega arith) (fits c)
+size-is : (c : Listed) → size c ≡ length (word c)
+size-is c = c .before .before .before .length .ensures
+
+fits : (c : Listed) → length (c .list .last .1 .1 .1 .1 .0) ≡ rows * (size c + 1) - 0
+fits c = c .list .kept .1 .1 .1 .1 .0 ∙ length-take (rows * (size c + 1) - 0) (entered c) ∙ omega arith
+
+left-long : (c : Listed) → length (lent (entered c) 0 (rows * (size c + 1)) (c .list .last .1 .1 .1 .1 .0)) ≡ length (entered c)
+left-long c = lent-length (entered c) 0 (rows * (size c + 1)) (c .list .last .1 .1 .1 .1 .0) (omega arith) (omega arith) (fits c)
+
+length-requires : tie.Need-length-requires
+length-requires c κs = search needs
 
 add-four : tie.Need-add-four
 add-four c = search needs
@@ -55,7 +66,11 @@ list-requires c κs = search needs
 fill-requires : tie.Need-fill-requires
 fill-requires c κs =
     let l = c .before .before .before .before .before .before in
-    ((omega arith, omega (arith, left-long l)), listed-runs (word l) (l .before .before .before .before .before .before .args .table .now) _ (omega arith) (l .list .kept .1 .1 .0) (l .list .ensures .1), l .list .ensures .0)
+    let p = l .before .before .before .before .before .before .before .before .pre in (
+      workable-long (word l) (entered l) (lent (entered l) 0 (rows * (size l + 1)) (l .list .last .1 .1 .1 .1 .0)) (p .0) (left-long l),
+      listed-runs (word l) (l .before .before .before .before .before .before .before .before .args .table .now) _ (p .1) (l .list .kept .1 .1 .1 .1 .1 .0) (l .list .ensures .1),
+      l .list .ensures .0,
+    )
 
 same-length : tie.Need-same-length
 same-length c = search needs
@@ -67,12 +82,13 @@ returns : tie.Need-returns
 returns c =
     let l = c .before .before .before .before .before .before .before .before .before in
     c .before .before .fill .ensures
-    ∙ lent-filled (choiceOf (l .before .before .before .before .before .before .args .choice)) (piece? square? (word l)) (length (word l)) (entered l) (l .list .last .1 .0) (omega arith) (fits l)
+    ∙ lent-filled (choiceOf (l .before .before .before .before .before .before .before .before .args .choice)) (piece? square? (word l)) (length (word l)) (size l) (entered l) (l .list .last .1 .1 .1 .1 .0) (size-is l) (omega arith) (fits l)
 
 pub fill-in-spec : {M : Type 1} → statement M
 fill-in-spec =
     tie.close
     (tie.spec
+    length-requires
     add-four
     mul-four
     mul-list
