@@ -1,5 +1,7 @@
 // The answers that every call shares: the numbered refusals of the documents, and the limit on the
 // length of a word. A call's own answer enum stands beside the call and holds one of these.
+#![tactic(auto)]
+
 ghost use Rattle.std.specs.Prelude.{◌≡◌};
 ghost use Rattle.answers.specs.Outcome.{code_of};
 

@@ -1,4 +1,6 @@
 // The bench program: reads one line from standard input, and prints its report.
+#![tactic(auto)]
+
 ghost use Rattle.std.specs.Prelude.{◌≡◌, ◌≤◌, ◌<◌, length};
 ghost use Rattle.report.specs.Text.{program_limit, text};
 ghost use Rattle.bench.specs.Line.{line_length, Holds};

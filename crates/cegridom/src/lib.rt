@@ -5,6 +5,8 @@
 // which the numbers handed over determine: handed-over-determines in proofs/Claims.antt, and
 // proofs/Values.antt for each call. First block alone has no outcome: its two numbers say which word
 // it is a part of, and how long.
+#![tactic(auto)]
+
 ghost use Rattle.std.specs.Prelude.{◌≡◌, length};
 ghost use Rattle.answers.specs.Outcome.{counted_view};
 ghost use Rattle.periods.specs.Part.{part_view, part_outcome, part_table};

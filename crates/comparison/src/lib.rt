@@ -1,5 +1,7 @@
 // Which of two words to wind first: the one with fewer blocks in its smallest factorization, and the
 // first block of that one.
+#![tactic(auto)]
+
 ghost use Rattle.std.specs.Prelude.{◌≡◌, length};
 ghost use Rattle.answers.specs.Outcome.{counted_view};
 ghost use Rattle.comparison.specs.Calls.{compared, which_outcome, which_work, WhichMeaning, first_which, first_block, start_in, BlockMeaning};

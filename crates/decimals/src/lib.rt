@@ -1,4 +1,6 @@
 // Numbers in decimal: their digits made and read, in one function each.
+#![tactic(auto)]
+
 pub mod inner;
 
 // The digits that the greatest number has.

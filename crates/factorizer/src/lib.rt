@@ -1,5 +1,7 @@
 // The best factorization of a word into repetitions; and what best split and best squares share: the
 // answer from a filled table, and the judge of a factorization into either kind of blocks.
+#![tactic(auto)]
+
 ghost use Rattle.std.specs.Prelude.{◌≡◌};
 ghost use Rattle.factorizer.specs.Rule.{rule_of, square_rule};
 

@@ -1,5 +1,7 @@
 // What every factorizer and every judge shares: the choices, the working table of four rows of n + 1
 // places each, and the tests of a choice and of an end.
+#![tactic(auto)]
+
 ghost use Rattle.std.specs.Prelude.{◌≡◌};
 ghost use Rattle.factors.specs.Factorization.{bad_choice?};
 ghost use Rattle.factors.specs.Verdict.{bad_end?};

@@ -1,5 +1,7 @@
 // The table of all runs of a word, found by halves: the runs of both halves of a part, then those that
 // cross its middle.
+#![tactic(auto)]
+
 pub mod inner;
 mod node;
 mod scan;

@@ -1,4 +1,6 @@
 // White nodes of the repetition graph: the nodes call.
+#![tactic(auto)]
+
 ghost use Rattle.std.specs.Prelude.{◌≡◌, length};
 ghost use Rattle.answers.specs.Outcome.{counted_view};
 ghost use Rattle.nodes.specs.Calls.{nodes_outcome, nodes_table, NodesMeaning};

@@ -1,4 +1,6 @@
 // The form of a line of a page: its columns, and the line written into lent bytes.
+#![tactic(auto)]
+
 ghost use Rattle.std.specs.Prelude.{◌≡◌};
 ghost use Rattle.page_lines.specs.Line.{byte_form, code_form};
 

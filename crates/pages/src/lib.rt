@@ -1,4 +1,6 @@
 // A page of a split: a line for each block, written into lent bytes.
+#![tactic(auto)]
+
 ghost use Rattle.std.specs.Prelude.{◌≡◌, length};
 ghost use Rattle.answers.specs.Outcome.{counted_view};
 ghost use Rattle.page_lines.specs.Line.{byte_form, code_form};

@@ -1,4 +1,6 @@
 // The repetition graph: path of a split and judge a path.
+#![tactic(auto)]
+
 ghost use Rattle.std.specs.Prelude.{◌≡◌, length};
 ghost use Rattle.answers.specs.Outcome.{counted_view};
 ghost use Rattle.paths.specs.Calls.{path_outcome, path_table, PathMeaning, path_judged_outcome, PathJudgedMeaning};

@@ -1,4 +1,6 @@
 // Parts of a word, their periods, squares, the editions, and the part call.
+#![tactic(auto)]
+
 ghost use Rattle.std.specs.Prelude.{◌≡◌, length};
 ghost use Rattle.periods.specs.Edition.{bad_edition?, turns_of};
 ghost use Rattle.periods.specs.Part.{part_view, part_outcome, part_table, PartMeaning};

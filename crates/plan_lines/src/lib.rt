@@ -1,4 +1,6 @@
 // The form of a plan line: its layout, by the digits of a number, and the test that bytes are one.
+#![tactic(auto)]
+
 ghost use Rattle.std.specs.Prelude.{◌≡◌};
 ghost use Rattle.plan_lines.specs.Line.{prefix_of, width_of, needs_long, starts_with, long?, needless?, line?};
 

@@ -1,4 +1,6 @@
 // Plans: written from n and ends as a plan line, and read back.
+#![tactic(auto)]
+
 ghost use Rattle.std.specs.Prelude.{◌≡◌, length};
 ghost use Rattle.answers.specs.Outcome.{counted_view};
 ghost use Rattle.plans.specs.Calls.{write_outcome, write_table, WriteMeaning, read_outcome, read_table, ReadMeaning, plan_view};

@@ -1,4 +1,6 @@
 // Repetition factorizations: best split and judge a split.
+#![tactic(auto)]
+
 ghost use Rattle.std.specs.Prelude.{◌≡◌};
 ghost use Rattle.answers.specs.Outcome.{counted_view};
 ghost use Rattle.repetitions.specs.BestSplit.{best_outcome, best_ends_table, best_work, BestMeaning};

@@ -1,4 +1,6 @@
 // The runs call. What it means stands in `runs`, which is below the finder of runs.
+#![tactic(auto)]
+
 ghost use Rattle.std.specs.Prelude.{◌≡◌, length};
 ghost use Rattle.answers.specs.Outcome.{counted_view};
 ghost use Rattle.runs.specs.Calls.{runs_outcome, runs_table, RunsMeaning};

@@ -1,5 +1,7 @@
 // Runs (maximal repetitions): their records and their table. What the runs call means stands here too;
 // its code is in `run_table`, above the finder of runs.
+#![tactic(auto)]
+
 ghost use Rattle.std.specs.Prelude.{◌≡◌};
 ghost use Rattle.runs.specs.Listing.{stride_of};
 

@@ -1,6 +1,8 @@
 // What the test programs share: text on standard output, the generator of their words, and the
 // tables of their cases. No contract can say what was written: a printing function gives how many
 // bytes it handed to standard output, and its contract fixes that count by the text.
+#![tactic(auto)]
+
 pub mod cases;
 
 ghost use Rattle.std.specs.Prelude.{◌≡◌, ◌≤◌, length};

@@ -1,4 +1,6 @@
 // Square factorizations: best squares and judge squares.
+#![tactic(auto)]
+
 ghost use Rattle.std.specs.Prelude.{◌≡◌};
 ghost use Rattle.answers.specs.Outcome.{counted_view};
 ghost use Rattle.squares.specs.BestSquares.{squares_outcome, squares_ends, squares_work, SquaresMeaning};

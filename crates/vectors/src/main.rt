@@ -2,6 +2,8 @@
 // and some more, on words with many runs, every refusal of these calls with the tables before and
 // after, and words from a small generator. What is lent holds 7 in every place before the call; a
 // list shows the lent places after it. Each line is compared with the file stdout.
+#![tactic(auto)]
+
 use answers::Counted;
 use decimals::COMMA;
 use show::{field, outcome, text};

@@ -2,6 +2,8 @@
 // order, splits and paths, pages as they would hang on the wall, pairs of words, and refusals. What is
 // lent holds 7, or a dot, in every place before the first call with it; a list shows the lent places
 // after the call. Each line is compared with the file stdout.
+#![tactic(auto)]
+
 use periods::{Description, PartAnswer};
 use show::{field, outcome, text};
 

@@ -2,6 +2,8 @@
 // in both editions, and each refusal. A table that is lent holds 7 in every place before the first
 // call with it; a list shows the lent places after the call. Each line is compared with the file
 // stdout.
+#![tactic(auto)]
+
 use decimals::COMMA;
 use show::text;
 

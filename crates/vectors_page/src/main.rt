@@ -1,6 +1,8 @@
 // Shows the pages of splits of document 01's sequences, in both editions, as they would hang on the
 // wall, and write a page on each of its refusals, with every byte that was lent. The output is
 // compared with the file stdout.
+#![tactic(auto)]
+
 use show::text;
 
 fn main() {

@@ -1,5 +1,7 @@
 // Shows the part call on document 01's examples, in both editions, and on each of its refusals, with
 // the table of units that it leaves. Each line is compared with the file stdout.
+#![tactic(auto)]
+
 use decimals::COMMA;
 use periods::{Description, PartAnswer};
 use show::{field, text};

@@ -1,6 +1,8 @@
 // Plans written and read, and every refusal of both calls, with the lent table before and after. The
 // bytes of a table are 46 (".") before a call, and its numbers 777, so that what changed shows. Each
 // line is compared with the file stdout.
+#![tactic(auto)]
+
 use answers::Counted;
 use decimals::COMMA;
 use plans::PlanAnswer;

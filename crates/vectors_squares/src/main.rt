@@ -1,6 +1,8 @@
 // Shows best squares and judge squares on the documents' words, on each refusal and on squares joined
 // by a small generator. What is lent holds 7 in every place before the first call with it; a list
 // shows the lent places after the call. Each line is compared with the file stdout.
+#![tactic(auto)]
+
 use decimals::COMMA;
 use show::{field, outcome, text};
 

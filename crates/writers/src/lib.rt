@@ -1,2 +1,4 @@
 // Bytes, numbers and lines written into lent bytes.
+#![tactic(auto)]
+
 pub mod inner;
