@@ -6,7 +6,7 @@ ghost use Rattle.report.specs.Text.{program_limit, text};
 ghost use Rattle.bench.specs.Line.{line_length, Holds};
 
 use decimals::LINE_END;
-use libc::{STDERR_FILENO, STDIN_FILENO, STDOUT_FILENO};
+use std::io::Read;
 
 // One byte more than the program takes tells a line that is too long.
 const ENOUGH: usize = report::PROGRAM_LIMIT + 1;
@@ -41,17 +41,16 @@ fn line_length(s: &[u8]) -> usize
 
 // Reads until byte 10 came, buf is full, the input is over or a read fails, in whatever pieces the
 // bytes come. It does not wait for more after byte 10.
-fn read_line(buf: &mut [u8]) -> Input
+fn read_line(input: &mut impl Read, buf: &mut [u8]) -> Input
     ensures { Holds buf.new result }
 {
     let n = buf.len();
     let mut have: usize = 0;
     while have < n {
-        let got = libc::read(STDIN_FILENO, &mut buf[have..n]);
-        if got < 0 {
-            return Input::Failed;
-        }
-        let more = io::count(got, &buf[have..n]);
+        let more = match input.read(&mut buf[have..n]) {
+            Ok(more) => more,
+            Err(_) => return Input::Failed,
+        };
         if more == 0 {
             return Input::Over(have);
         }
@@ -67,39 +66,39 @@ fn read_line(buf: &mut [u8]) -> Input
 
 // Writes the text of a word to standard output. Where that fails, says so on standard error: a
 // program has no exit status to tell it by. The word is there for what is required.
-fn say(word: &[u8], bytes: &[u8])
+fn say(rt: &(impl Print + Eprint), word: &[u8], bytes: &[u8])
     requires { bytes.now ≡ text word.now }
 {
-    if !io::write_all(STDOUT_FILENO, bytes) {
-        io::write_all(STDERR_FILENO, b"bench: the report was not written\n");
+    if rt.write_all(bytes).is_err() {
+        let _ = rt.eprintln("bench: the report was not written");
     }
 }
 
 // Prints the report of a word.
-fn print_report(word: &[u8]) {
+fn print_report(rt: &(impl Print + Eprint), word: &[u8]) {
     let mut out = [0u8; report::LONGEST_REPORT];
     let n = report::report(word, &mut out);
     let zero: usize = 0;
-    say(word, &out[zero..n]);
+    say(rt, word, &out[zero..n]);
 }
 
 // Prints the report of bytes that filled the buffer: they are the start of a line that is too long.
-fn print_long(bytes: &[u8])
+fn print_long(rt: &(impl Print + Eprint), bytes: &[u8])
     requires { program_limit < length bytes.now }
 {
-    print_report(bytes);
+    print_report(rt, bytes);
 }
 
-fn main() {
+fn main(rt: HostRuntime) {
     let mut buf = [0u8; ENOUGH];
     let zero: usize = 0;
-    let input = read_line(&mut buf);
+    let input = read_line(&mut rt.stdin(), &mut buf);
     match input {
-        Input::Ended(n) => print_report(&buf[zero..n]),
-        Input::Over(n) => print_report(&buf[zero..n]),
-        Input::Full => print_long(&buf),
+        Input::Ended(n) => print_report(&rt, &buf[zero..n]),
+        Input::Over(n) => print_report(&rt, &buf[zero..n]),
+        Input::Full => print_long(&rt, &buf),
         Input::Failed => {
-            io::write_all(STDERR_FILENO, b"bench: the input could not be read\n");
+            let _ = rt.eprintln("bench: the input could not be read");
         }
     }
 }

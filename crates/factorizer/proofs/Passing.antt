@@ -74,7 +74,9 @@ module _ (c : Choice) (k : ℕ) (turns : Turns k) (w : List ℕ) (j u : ℕ) (t 
 
       near : (x : ℕ) → x ≤ length w → suc j < x → x ≤ suc j + window → Dec (x ≤ m) → Holds r x (length w + 1 + x) (scan c b (cell c b) x (suc j))
       near x h l y (yes z) = mid x h (omega arith) z
-      near x h l y (no z) = let e : x ≡ suc m = omega arith in rw e (at (omega arith))
+      near x h l y (no z) =
+          let e : x ≡ suc m = omega arith in
+          subst (λ (v : ℕ). Holds r v (length w + 1 + v) (scan c b (cell c b) v (suc j))) (sym e) (at (omega arith))
 
   -- no block from a boundary up to j ends at the next boundary: its place holds nothing, and may stay as it is
   stops : None (suc m) → Windowed c b w window (suc j) (suc j) u t

@@ -9,7 +9,7 @@ pub mod inner;
 
 // What the judge takes for a block: a repetition of so many turns at least, or a square, which has two
 // turns of its half.
-#[derive(Drop)]
+#[derive(Clone, Copy)]
 pub struct Rule {
     pub turns: usize,
     pub square: bool,

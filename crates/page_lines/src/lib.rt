@@ -11,7 +11,7 @@ pub const LINE_BYTES: usize = 61;
 
 // The form of the last column: the hexadecimal digits of each symbol, and how many symbols of a unit are
 // shown at most.
-#[derive(Drop)]
+#[derive(Clone, Copy)]
 pub struct Form {
     pub digits: usize,
     pub shown: usize,

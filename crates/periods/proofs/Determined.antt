@@ -38,7 +38,7 @@ description-determined k s u t r b D = rw (
 ) refl
   where
     block : b ≡ flag (repetition? held_period k s)
-    block = flag_is b (repetition? held_period k s) D.flagged (λ e. repetition_complete held_period k s (D.is_Block.0 e)) (λ p. D.is_Block.1 (repetition_sound held_period k s p))
+    block = flag_is b (repetition? held_period k s) D.flagged (λ e. repetition_complete held_period k s (D.is_block.0 e)) (λ p. D.is_block.1 (repetition_sound held_period k s p))
 
 -- a table that grows with the prefixes is the one that the smallest periods were written to
 grows_determined : (s t x : List ℕ) (u : ℕ) → Grows s t x u → length s ≤ length t → x ≡ units_table s t

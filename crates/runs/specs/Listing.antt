@@ -1,5 +1,5 @@
 -- What a table may have of each run: its record, its key, or a mark.
-use Rattle.std.specs.Prelude.{Bool, cond, ◌&&◌, List, [], ◌∷◌, ◌++◌, ℕ, suc, ◌+◌, ◌*◌, leb}
+use Rattle.std.specs.Prelude.{Bool, cond, ◌&&◌, List, [], ◌∷◌, ◌++◌, ℕ, ◌+◌, ◌*◌, leb}
 use Rattle.periods.specs.Period.{held_period}
 use Rattle.runs.specs.declared.Record.{Record}
 use Rattle.runs.specs.declared.Listing.{Listing}

@@ -8,7 +8,7 @@ ghost use Rattle.runs.specs.Listing.{stride_of};
 pub mod inner;
 
 // The record of a run: document 01's first, last and unit, and document 02's root.
-#[derive(Drop)]
+#[derive(Clone, Copy)]
 pub struct Record {
     pub first: u32,
     pub last: u32,
@@ -21,7 +21,7 @@ pub const STRIDE: usize = 4;
 
 // What a table has of each run: its record; its key, by which it is looked up; or a mark, 1 where the run
 // has a white node at a position and 0 elsewhere, by the turn number and the position.
-#[derive(Drop)]
+#[derive(Clone, Copy)]
 pub enum Listing {
     Records,
     Keys,

@@ -12,72 +12,71 @@ ghost use Rattle.show.specs.Generator.{next_seed, letter_of};
 
 use answers::{Counted, Refusal};
 use decimals::{COMMA, LINE_END, MOST_DIGITS};
-use libc::STDOUT_FILENO;
 
 // The longest list of numbers that is printed.
 const MOST: usize = 65536;
 
 // Bytes as they are.
-pub fn text(s: &[u8]) -> usize
+pub fn text(rt: &impl Print, s: &[u8]) -> usize
     ensures { result ≡ length s.now }
 {
-    io::write_all(STDOUT_FILENO, s);
+    let _ = rt.write_all(s);
     s.len()
 }
 
 // A number with no leading zeros.
-pub fn number(x: u32) -> usize
+pub fn number(rt: &impl Print, x: u32) -> usize
     ensures { (result ≡ length (plain x)) × (result ≤ 10) }
 {
     let mut digits = [0u8; MOST_DIGITS];
     let zero: usize = 0;
     let k = decimals::inner::count(x);
     decimals::inner::write(&mut digits, zero, k, x);
-    text(&digits[zero..k])
+    text(rt, &digits[zero..k])
 }
 
 // A byte and a number.
-fn after(before: u8, x: u32) -> usize
+fn after(rt: &impl Print, before: u8, x: u32) -> usize
     ensures { (result ≡ length (byte_number before x)) × (result ≤ 11) }
 {
-    let byte = text(&[before]);
-    byte + number(x)
+    let byte = text(rt, &[before]);
+    byte + number(rt, x)
 }
 
 // A comma and a number.
-pub fn field(x: u32) -> usize
+pub fn field(rt: &impl Print, x: u32) -> usize
     ensures { (result ≡ length (byte_number comma x)) × (result ≤ 11) }
 {
-    after(COMMA, x)
+    after(rt, COMMA, x)
 }
 
 // The number of a refusal and its index, with a comma between them.
-pub fn code(r: Refusal) -> usize
+pub fn code(rt: &impl Print, r: Refusal) -> usize
     ensures { (result ≡ length (code_text r)) × (result ≤ 21) }
 {
     let c = answers::coded(r);
-    let first = number(c.0);
-    first + field(c.1)
+    let first = number(rt, c.0);
+    first + field(rt, c.1)
 }
 
 // ",accepted" and the number, or ",refused" and the refusal's numbers, with a comma before each.
-pub fn outcome(answer: Counted) -> usize
+pub fn outcome(rt: &impl Print, answer: Counted) -> usize
     ensures { result ≡ length (outcome_text answer) }
 {
     match answer {
         Counted::Count(n) => {
-            let head = text(b",accepted");
-            return head + field(n);
+            let head = text(rt, b",accepted");
+            return head + field(rt, n);
         }
         Counted::Refused(r) => {
-            let head = text(b",refused,");
-            return head + code(r);
+            let head = text(rt, b",refused,");
+            return head + code(rt, r);
         }
     }
 }
 
 // Numbers, a byte before each; none of a list that is longer than the longest.
-pub fn numbers(before: u8, xs: &[u32]) -> usize
+pub fn numbers(rt: &impl Print, before: u8, xs: &[u32]) -> usize
     ensures { result ≡ length (numbers_shown before xs.now) }
 {
     if MOST < xs.len() {
@@ -86,30 +85,30 @@ pub fn numbers(before: u8, xs: &[u32]) -> usize
     let mut count: usize = 0;
     let mut i: usize = 0;
     while i < xs.len() {
-        count += after(before, xs[i]);
+        count += after(rt, before, xs[i]);
         i += 1;
     }
     count
 }
 
 // A byte, the line end as a backslash and an n.
-fn visible(b: u8) -> usize
+fn visible(rt: &impl Print, b: u8) -> usize
     ensures { (result ≡ length (visible_byte b)) × (result ≤ 2) }
 {
     if b == LINE_END {
-        return text(b"\\n");
+        return text(rt, b"\\n");
     }
-    text(&[b])
+    text(rt, &[b])
 }
 
 // Bytes, each line end as a backslash and an n.
-pub fn bytes(s: &[u8]) -> usize
+pub fn bytes(rt: &impl Print, s: &[u8]) -> usize
     ensures { result ≡ length (visible_bytes s.now) }
 {
     let mut count: usize = 0;
     let mut i: usize = 0;
     while i < s.len() {
-        count += visible(s[i]);
+        count += visible(rt, s[i]);
         i += 1;
     }
     count

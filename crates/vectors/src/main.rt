@@ -10,7 +10,7 @@ use show::{field, outcome, text};
 
 // Which call a table of cases is for, and what the numbers of a row are, behind the edition, which
 // stands first in every row but those of runs.
-#[derive(Drop)]
+#[derive(Clone, Copy)]
 enum Call {
     // the places that are lent
     Runs,
@@ -27,28 +27,31 @@ enum Call {
     JudgePath,
 }
 
-fn main() {
-    graph();
-    splits();
-    paths();
-    long_words();
-    too_long();
-    generated();
+fn main(rt: HostRuntime) {
+    let rt = &rt;
+    graph(rt);
+    splits(rt);
+    paths(rt);
+    long_words(rt);
+    too_long(rt);
+    generated(rt);
 }
 
 // Edition 1 comes first in each table of cases, then edition 2, and then refusal 12, alone and
 // before each that it precedes.
-fn graph() {
+fn graph(rt: &impl Print) {
     rows(
+        rt,
         Call::Runs,
         b"aabaabaa,18|aabaabaa,16|aabaabaa,15|aabaabaa,12|aabaabaa,0|,0|,2|ab,1|aaaa,4|ababa,5|\
         abaabaababaabaabababa,64|aabaabaacbbcbbcbb,64|\
         abababab,5|aaaaaabbbccc,13|aaaabababab,9|aaabaaabaaabaaa,21|\
         ababbaba,17|bababab,4|cabcabca,4|abacabacab,4|abaaabaaabaa,17|",
     );
-    symbols();
-    rich();
+    symbols(rt);
+    rich(rt);
     rows(
+        rt,
         Call::Nodes,
         b"aabaabaa,1,3,1|aabaabaa,1,3,2|aabaabaa,1,3,5|aabaabaa,1,1,6|aabaabaa,1,3,8|\
         aabaabaa,1,2,8|aabaabaa,1,1,8|aabaabaa,1,3,0|aabaabaa,1,3,9|,1,0,1|aa,1,1,2|\
@@ -64,11 +67,12 @@ fn graph() {
 }
 
 // Symbols that are not letters: roots go by their codes, from 0 to 255.
-fn symbols() {
-    named_runs(b"128 1 twice", b"\x80\x01\x80\x01");
-    named_runs(b"127 128 twice", b"\x7f\x80\x7f\x80");
-    named_runs(b"200 100 twice and 200", b"\xc8\x64\xc8\x64\xc8");
+fn symbols(rt: &impl Print) {
+    named_runs(rt, b"128 1 twice", b"\x80\x01\x80\x01");
+    named_runs(rt, b"127 128 twice", b"\x7f\x80\x7f\x80");
+    named_runs(rt, b"200 100 twice and 200", b"\xc8\x64\xc8\x64\xc8");
     named_runs(
+        rt,
         b"128 255 128 127 twice",
         b"\x80\xff\x80\x7f\x80\xff\x80\x7f",
     );
@@ -76,7 +80,7 @@ fn symbols() {
 
 // How near its length the count of a word's runs comes, with four places lent for each symbol: they
 // always suffice.
-fn rich() {
+fn rich(rt: &impl Print) {
     let mut w = [97u8; 4096];
     let mut places = [0u32; 18];
     let zero: usize = 0;
@@ -88,10 +92,10 @@ fn rich() {
         &mut places,
     );
     series(&mut w, &places);
-    near(b"aa");
-    near(b"aabaabbaabaabb");
-    near(&w[zero..end]);
-    named_near(b"4096 rich in runs", &w);
+    near(rt, b"aa");
+    near(rt, b"aabaabbaabaabb");
+    near(rt, &w[zero..end]);
+    named_near(rt, b"4096 rich in runs", &w);
 }
 
 // A series of words with many runs for their length: each begins with the one before it and goes on
@@ -113,39 +117,40 @@ fn begin_again(w: &mut [u8], place: usize) {
     }
 }
 
-fn near(w: &[u8]) {
-    named_near(w, w);
+fn near(rt: &impl Print, w: &[u8]) {
+    named_near(rt, w, w);
 }
 
 // The word or its name, the length, the places lent and the answer; of a short table also what it
 // holds.
-fn named_near(name: &[u8], w: &[u8]) {
+fn named_near(rt: &impl Print, name: &[u8], w: &[u8]) {
     let mut table = [7u32; 16384];
     let zero: usize = 0;
     if w.len() <= 4096 {
         let n = w.len() as u32;
         let end = 4 * w.len();
-        text(b"runs,");
-        text(name);
-        field(n);
-        field(4 * n);
-        near_in(w, &mut table[zero..end]);
+        text(rt, b"runs,");
+        text(rt, name);
+        field(rt, n);
+        field(rt, 4 * n);
+        near_in(rt, w, &mut table[zero..end]);
     }
 }
 
-fn near_in(w: &[u8], table: &mut [u32]) {
-    outcome(run_table::runs(w, table));
+fn near_in(rt: &impl Print, w: &[u8], table: &mut [u32]) {
+    outcome(rt, run_table::runs(w, table));
     if table.len() <= 64 {
-        list(b"", table);
+        list(rt, b"", table);
     } else {
-        text(b"\n");
+        text(rt, b"\n");
     }
 }
 
 // For best the refusals in their order stand behind both choices of an edition; the working table
 // afterwards shows whether it was used.
-fn splits() {
+fn splits(rt: &impl Print) {
     rows(
+        rt,
         Call::Best,
         b",1|a,1|ab,1|aa,1|aaaa,1|aaaaa,1|ababa,1|baa,1|aabb,1|aabaabaa,1|\
         abaabaababaabaabababa,1|aabaabaacbbcbbcbb,1|\
@@ -162,6 +167,7 @@ fn splits() {
         aaa,0,1,16,3|aaa,3,1,15,1|baa,4294967295,1,16,1|aaa,0,0,16,1|",
     );
     rows(
+        rt,
         Call::Judge,
         b"aabaabaa,1|aabaabaa,1,8|aabaabaa,1,2,8|aabaabaa,1,3,8|aabaabaa,1,2,2,8|aabaabaa,1,2,9|\
         aabaabaa,1,2|aabaabaa,1,2,4,8|aabaabaa,1,0|aabaabaa,1,4294967295|,1|,1,1|\
@@ -176,8 +182,9 @@ fn splits() {
     );
 }
 
-fn paths() {
+fn paths(rt: &impl Print) {
     rows(
+        rt,
         Call::Path,
         b"aabaabaa,1,2,8|aabaabaa,1,3,2,8|aabaabaa,1,2,2,8|aabaabaa,1,1,2,8|aabaabaa,1,1,3,8|\
         aabaabaa,1,0,2,9|aabaabaa,1,3,2|aabaabaacbbcbbcbb,1,4,6,8,15,17|\
@@ -190,6 +197,7 @@ fn paths() {
         abababab,0,2,9|abababab,3,2,3,8|abababab,4294967295,2|abababab,0,0,8|",
     );
     rows(
+        rt,
         Call::JudgePath,
         b"aabaabaa,1,1,2,2,8|aabaabaa,1,2,8|aabaabaa,1,1,2,1,8|aabaabaa,1,1,2,9,8|\
         aabaabaa,1,1,2,5,8|aabaabaa,1,0,8|aabaabaa,1,1,2,2|aabaabaa,1,1,2,2,2|aabaabaa,1,1,2,2,9|\
@@ -205,17 +213,17 @@ fn paths() {
     );
 }
 
-fn rows(call: Call, table: &[u8]) {
+fn rows(rt: &impl Print, call: Call, table: &[u8]) {
     let mut at: usize = 0;
     while at < table.len() {
         let end = show::cases::place(table, at, show::cases::BAR);
-        row(call, &table[at..end]);
+        row(rt, call, &table[at..end]);
         at = end + 1;
     }
 }
 
 // The first number goes apart from the others; a row has at most ten.
-fn row(call: Call, row: &[u8]) {
+fn row(rt: &impl Print, call: Call, row: &[u8]) {
     let zero: usize = 0;
     let one: usize = 1;
     let mut numbers = [0u32; 10];
@@ -223,52 +231,54 @@ fn row(call: Call, row: &[u8]) {
     let first = numbers[0];
     let end = show::cases::place(row, zero, COMMA);
     if one <= count {
-        ask(call, &row[zero..end], first, &numbers[one..count]);
+        ask(rt, call, &row[zero..end], first, &numbers[one..count]);
     }
 }
 
-fn ask(call: Call, w: &[u8], first: u32, numbers: &[u32]) {
+fn ask(rt: &impl Print, call: Call, w: &[u8], first: u32, numbers: &[u32]) {
     match call {
-        Call::Runs => runs_of(w, first),
-        Call::Nodes => lend(call, w, first, numbers),
-        Call::Best => best(w, first, numbers),
-        Call::Judge => judged(w, first, numbers),
-        Call::Path => lend(call, w, first, numbers),
-        Call::JudgePath => path_judged(w, first, numbers),
+        Call::Runs => runs_of(rt, w, first),
+        Call::Nodes => lend(rt, call, w, first, numbers),
+        Call::Best => best(rt, w, first, numbers),
+        Call::Judge => judged(rt, w, first, numbers),
+        Call::Path => lend(rt, call, w, first, numbers),
+        Call::JudgePath => path_judged(rt, w, first, numbers),
     }
 }
 
-fn judged(w: &[u8], edition: u32, ends: &[u32]) {
+fn judged(rt: &impl Print, w: &[u8], edition: u32, ends: &[u32]) {
     answered(
+        rt,
         b"judge,",
         w,
         edition,
         repetitions::judge_split(w, edition, ends),
     );
-    list(b" ends", ends);
+    list(rt, b" ends", ends);
 }
 
-fn path_judged(w: &[u8], edition: u32, numbers: &[u32]) {
+fn path_judged(rt: &impl Print, w: &[u8], edition: u32, numbers: &[u32]) {
     answered(
+        rt,
         b"judge path,",
         w,
         edition,
         paths::judge_path(w, edition, numbers),
     );
-    list(b" numbers", numbers);
+    list(rt, b" numbers", numbers);
 }
 
-fn best(w: &[u8], edition: u32, numbers: &[u32]) {
+fn best(rt: &impl Print, w: &[u8], edition: u32, numbers: &[u32]) {
     if numbers.len() == 3 {
-        best_of(w, edition, numbers[2], numbers[0], numbers[1]);
+        best_of(rt, w, edition, numbers[2], numbers[0], numbers[1]);
     } else if w.len() <= 24 {
         let space = (4 * w.len() + 5) as u32;
-        best_of(w, edition, 1, 12, space);
-        best_of(w, edition, 2, 12, space);
+        best_of(rt, w, edition, 1, 12, space);
+        best_of(rt, w, edition, 2, 12, space);
     }
 }
 
-fn best_of(w: &[u8], edition: u32, choice: u32, places: u32, space: u32) {
+fn best_of(rt: &impl Print, w: &[u8], edition: u32, choice: u32, places: u32, space: u32) {
     let mut ends = [7u32; 64];
     let mut work = [7u32; 128];
     let zero: usize = 0;
@@ -277,6 +287,7 @@ fn best_of(w: &[u8], edition: u32, choice: u32, places: u32, space: u32) {
     if places <= 64 {
         if space <= 128 {
             best_in(
+                rt,
                 w,
                 edition,
                 choice,
@@ -287,47 +298,70 @@ fn best_of(w: &[u8], edition: u32, choice: u32, places: u32, space: u32) {
     }
 }
 
-fn best_in(w: &[u8], edition: u32, choice: u32, ends: &mut [u32], work: &mut [u32]) {
-    text(b"best,");
-    text(w);
-    field(edition);
-    field(choice);
-    outcome(repetitions::best_split(w, edition, choice, ends, work));
-    list(b" ends", ends);
-    list(b" work", work);
+fn best_in(
+    rt: &impl Print,
+    w: &[u8],
+    edition: u32,
+    choice: u32,
+    ends: &mut [u32],
+    work: &mut [u32],
+) {
+    text(rt, b"best,");
+    text(rt, w);
+    field(rt, edition);
+    field(rt, choice);
+    outcome(rt, repetitions::best_split(w, edition, choice, ends, work));
+    list(rt, b" ends", ends);
+    list(rt, b" work", work);
 }
 
-fn runs_of(w: &[u8], places: u32) {
+fn runs_of(rt: &impl Print, w: &[u8], places: u32) {
     let mut table = [7u32; 64];
     let zero: usize = 0;
     let last = places as usize;
     if places <= 64 {
-        runs_in(w, places, &mut table[zero..last]);
+        runs_in(rt, w, places, &mut table[zero..last]);
     }
 }
 
 // Lends as many places as the first of the numbers says, and passes on those behind it.
-fn lend(call: Call, w: &[u8], edition: u32, numbers: &[u32]) {
+fn lend(rt: &impl Print, call: Call, w: &[u8], edition: u32, numbers: &[u32]) {
     let one: usize = 1;
     let end = numbers.len();
     if one <= end {
-        lend_places(call, w, edition, numbers[0], &numbers[one..end]);
+        lend_places(rt, call, w, edition, numbers[0], &numbers[one..end]);
     }
 }
 
-fn lend_places(call: Call, w: &[u8], edition: u32, places: u32, numbers: &[u32]) {
+fn lend_places(rt: &impl Print, call: Call, w: &[u8], edition: u32, places: u32, numbers: &[u32]) {
     let mut table = [7u32; 64];
     let zero: usize = 0;
     let last = places as usize;
     if places <= 64 {
-        lent(call, w, edition, places, numbers, &mut table[zero..last]);
+        lent(
+            rt,
+            call,
+            w,
+            edition,
+            places,
+            numbers,
+            &mut table[zero..last],
+        );
     }
 }
 
-fn lent(call: Call, w: &[u8], edition: u32, places: u32, numbers: &[u32], table: &mut [u32]) {
+fn lent(
+    rt: &impl Print,
+    call: Call,
+    w: &[u8],
+    edition: u32,
+    places: u32,
+    numbers: &[u32],
+    table: &mut [u32],
+) {
     match call {
-        Call::Nodes => nodes_in(w, edition, places, numbers, table),
-        Call::Path => path_in(w, edition, numbers, table),
+        Call::Nodes => nodes_in(rt, w, edition, places, numbers, table),
+        Call::Path => path_in(rt, w, edition, numbers, table),
         Call::Runs => {}
         Call::Best => {}
         Call::Judge => {}
@@ -335,197 +369,212 @@ fn lent(call: Call, w: &[u8], edition: u32, places: u32, numbers: &[u32], table:
     }
 }
 
-fn runs_in(w: &[u8], places: u32, table: &mut [u32]) {
-    text(b"runs,");
-    text(w);
-    field(places);
-    outcome(run_table::runs(w, table));
-    list(b"", table);
+fn runs_in(rt: &impl Print, w: &[u8], places: u32, table: &mut [u32]) {
+    text(rt, b"runs,");
+    text(rt, w);
+    field(rt, places);
+    outcome(rt, run_table::runs(w, table));
+    list(rt, b"", table);
 }
 
 // The same of a word that is shown by a name, with five places lent.
-fn named_runs(name: &[u8], w: &[u8]) {
+fn named_runs(rt: &impl Print, name: &[u8], w: &[u8]) {
     let mut table = [7u32; 5];
-    text(b"runs,");
-    text(name);
-    outcome(run_table::runs(w, &mut table));
-    list(b"", &table);
+    text(rt, b"runs,");
+    text(rt, name);
+    outcome(rt, run_table::runs(w, &mut table));
+    list(rt, b"", &table);
 }
 
-fn nodes_in(w: &[u8], edition: u32, places: u32, numbers: &[u32], table: &mut [u32]) {
+fn nodes_in(
+    rt: &impl Print,
+    w: &[u8],
+    edition: u32,
+    places: u32,
+    numbers: &[u32],
+    table: &mut [u32],
+) {
     if numbers.len() == 1 {
         let position = numbers[0];
-        text(b"nodes,");
-        text(w);
-        field(edition);
-        field(position);
-        field(places);
-        outcome(nodes::nodes(w, edition, position, table));
-        list(b"", table);
+        text(rt, b"nodes,");
+        text(rt, w);
+        field(rt, edition);
+        field(rt, position);
+        field(rt, places);
+        outcome(rt, nodes::nodes(w, edition, position, table));
+        list(rt, b"", table);
     }
 }
 
-fn path_in(w: &[u8], edition: u32, ends: &[u32], table: &mut [u32]) {
+fn path_in(rt: &impl Print, w: &[u8], edition: u32, ends: &[u32], table: &mut [u32]) {
     answered(
+        rt,
         b"path,",
         w,
         edition,
         paths::path_of_split(w, edition, ends, table),
     );
-    list(b" ends", ends);
-    list(b" runs", table);
+    list(rt, b" ends", ends);
+    list(rt, b" runs", table);
 }
 
-fn answered(name: &[u8], w: &[u8], edition: u32, answer: Counted) {
-    text(name);
-    text(w);
-    field(edition);
-    outcome(answer);
+fn answered(rt: &impl Print, name: &[u8], w: &[u8], edition: u32, answer: Counted) {
+    text(rt, name);
+    text(rt, w);
+    field(rt, edition);
+    outcome(rt, answer);
 }
 
 // A name, a colon, the numbers, each after a space, and the line's end.
-fn list(name: &[u8], xs: &[u32]) {
-    text(name);
-    text(b":");
-    show::numbers(32, xs);
-    text(b"\n");
+fn list(rt: &impl Print, name: &[u8], xs: &[u32]) {
+    text(rt, name);
+    text(rt, b":");
+    show::numbers(rt, 32, xs);
+    text(rt, b"\n");
 }
 
 // The places from one up to another, where the list has them.
-fn part(name: &[u8], xs: &[u32], from: usize, to: usize) {
+fn part(rt: &impl Print, name: &[u8], xs: &[u32], from: usize, to: usize) {
     if to <= xs.len() {
         if from <= to {
-            list(name, &xs[from..to]);
+            list(rt, name, &xs[from..to]);
         }
     }
 }
 
 // 4,096 equal symbols.
-fn long_words() {
+fn long_words(rt: &impl Print) {
     let w = [97u8; 4096];
     let mut ends = [7u32; 2047];
     let mut fewer = [7u32; 1364];
-    long_fewest(&w, 1);
-    long_most(&w, 1, 2046, 2049);
-    long_refused(&w, 1, &mut ends);
-    long_fewest(&w, 2);
-    long_most(&w, 2, 1363, 1366);
-    long_refused(&w, 2, &mut fewer);
+    long_fewest(rt, &w, 1);
+    long_most(rt, &w, 1, 2046, 2049);
+    long_refused(rt, &w, 1, &mut ends);
+    long_fewest(rt, &w, 2);
+    long_most(rt, &w, 2, 1363, 1366);
+    long_refused(rt, &w, 2, &mut fewer);
 }
 
-fn long_fewest(w: &[u8], edition: u32) {
+fn long_fewest(rt: &impl Print, w: &[u8], edition: u32) {
     let mut ends = [7u32; 2049];
     let mut work = [7u32; 16389];
     named(
+        rt,
         b"4096 equal",
         edition,
         b", fewest",
         repetitions::best_split(w, edition, 1, &mut ends, &mut work),
     );
-    part(b" ends", &ends, 0, 3);
+    part(rt, b" ends", &ends, 0, 3);
 }
 
 // The last ends are those at the places from one up to another.
-fn long_most(w: &[u8], edition: u32, from: usize, to: usize) {
+fn long_most(rt: &impl Print, w: &[u8], edition: u32, from: usize, to: usize) {
     let mut ends = [7u32; 2049];
     let mut work = [7u32; 16389];
     named(
+        rt,
         b"4096 equal",
         edition,
         b", most",
         repetitions::best_split(w, edition, 2, &mut ends, &mut work),
     );
-    part(b" ends", &ends, 0, 3);
-    part(b" last ends", &ends, from, to);
-    part(b" sizes", &work, 4094, 4099);
+    part(rt, b" ends", &ends, 0, 3);
+    part(rt, b" last ends", &ends, from, to);
+    part(rt, b" sizes", &work, 4094, 4099);
 }
 
-fn long_refused(w: &[u8], edition: u32, ends: &mut [u32]) {
+fn long_refused(rt: &impl Print, w: &[u8], edition: u32, ends: &mut [u32]) {
     let mut work = [7u32; 16389];
     named(
+        rt,
         b"4096 equal",
         edition,
         b", one place too few",
         repetitions::best_split(w, edition, 2, ends, &mut work),
     );
-    text(b"\n");
+    text(rt, b"\n");
 }
 
 // One symbol more: refusal 1 comes first in every call, before 12 too.
-fn too_long() {
+fn too_long(rt: &impl Print) {
     let w = [97u8; 70001];
     let mut table = [7u32; 4];
-    text(b"70001 equal, runs");
-    outcome(run_table::runs(&w, &mut table));
-    list(b"", &table);
-    too_long_in(&w, 1);
-    too_long_in(&w, 2);
-    too_long_in(&w, 0);
+    text(rt, b"70001 equal, runs");
+    outcome(rt, run_table::runs(&w, &mut table));
+    list(rt, b"", &table);
+    too_long_in(rt, &w, 1);
+    too_long_in(rt, &w, 2);
+    too_long_in(rt, &w, 0);
 }
 
-fn too_long_in(w: &[u8], edition: u32) {
+fn too_long_in(rt: &impl Print, w: &[u8], edition: u32) {
     let mut table = [7u32; 4];
     let mut ends = [7u32; 4];
-    long_splits(w, edition, &mut table, &mut ends);
-    long_paths(w, edition, &mut table);
+    long_splits(rt, w, edition, &mut table, &mut ends);
+    long_paths(rt, w, edition, &mut table);
 }
 
-fn long_splits(w: &[u8], edition: u32, table: &mut [u32], ends: &mut [u32]) {
-    over(edition, b", nodes", nodes::nodes(w, edition, 0, table));
-    list(b"", table);
+fn long_splits(rt: &impl Print, w: &[u8], edition: u32, table: &mut [u32], ends: &mut [u32]) {
+    over(rt, edition, b", nodes", nodes::nodes(w, edition, 0, table));
+    list(rt, b"", table);
     over(
+        rt,
         edition,
         b", best",
         repetitions::best_split(w, edition, 0, ends, table),
     );
-    list(b"", table);
+    list(rt, b"", table);
     over(
+        rt,
         edition,
         b", judge",
         repetitions::judge_split(w, edition, &[0]),
     );
-    text(b"\n");
+    text(rt, b"\n");
 }
 
-fn long_paths(w: &[u8], edition: u32, table: &mut [u32]) {
+fn long_paths(rt: &impl Print, w: &[u8], edition: u32, table: &mut [u32]) {
     over(
+        rt,
         edition,
         b", path",
         paths::path_of_split(w, edition, &[0], table),
     );
-    list(b"", table);
+    list(rt, b"", table);
     over(
+        rt,
         edition,
         b", judge path",
         paths::judge_path(w, edition, &[0]),
     );
-    text(b"\n");
+    text(rt, b"\n");
 }
 
-fn over(edition: u32, name: &[u8], answer: Counted) {
-    named(b"70001 equal", edition, name, answer);
+fn over(rt: &impl Print, edition: u32, name: &[u8], answer: Counted) {
+    named(rt, b"70001 equal", edition, name, answer);
 }
 
 // The word, the edition, a name and the answer.
-fn named(w: &[u8], edition: u32, name: &[u8], answer: Counted) {
-    text(w);
-    field(edition);
-    text(name);
-    outcome(answer);
+fn named(rt: &impl Print, w: &[u8], edition: u32, name: &[u8], answer: Counted) {
+    text(rt, w);
+    field(rt, edition);
+    text(rt, name);
+    outcome(rt, answer);
 }
 
 // Words of a linear congruential generator: lengths from 1 to 24, over 2 or 3 letters.
-fn generated() {
+fn generated(rt: &impl Print) {
     let mut seed: u32 = 12345;
     let mut i: u32 = 0;
     while i < 300 {
-        seed = word(seed, (1 + i % 24) as usize, 2 + i % 2);
+        seed = word(rt, seed, (1 + i % 24) as usize, 2 + i % 2);
         i += 1;
     }
 }
 
 // One word of up to 24 letters; gives the next seed.
-fn word(seed: u32, n: usize, letters: u32) -> u32 {
+fn word(rt: &impl Print, seed: u32, n: usize, letters: u32) -> u32 {
     let mut w = [0u8; 24];
     let zero: usize = 0;
     let mut s = seed;
@@ -538,28 +587,32 @@ fn word(seed: u32, n: usize, letters: u32) -> u32 {
         w[i] = show::letter(s, letters);
         i += 1;
     }
-    sizes(&w[zero..n]);
+    sizes(rt, &w[zero..n]);
     s
 }
 
 // The sizes in edition 1, and then in edition 2.
-fn sizes(w: &[u8]) {
-    text(b"word,");
-    text(w);
-    sizes_in(w, 1);
-    sizes_in(w, 2);
-    text(b"\n");
+fn sizes(rt: &impl Print, w: &[u8]) {
+    text(rt, b"word,");
+    text(rt, w);
+    sizes_in(rt, w, 1);
+    sizes_in(rt, w, 2);
+    text(rt, b"\n");
 }
 
-fn sizes_in(w: &[u8], edition: u32) {
+fn sizes_in(rt: &impl Print, w: &[u8], edition: u32) {
     let mut ends = [7u32; 16];
     let mut work = [7u32; 100];
     named(
+        rt,
         b"",
         edition,
         b",fewest",
         repetitions::best_split(w, edition, 1, &mut ends, &mut work),
     );
-    text(b",most");
-    outcome(repetitions::best_split(w, edition, 2, &mut ends, &mut work));
+    text(rt, b",most");
+    outcome(
+        rt,
+        repetitions::best_split(w, edition, 2, &mut ends, &mut work),
+    );
 }

@@ -10,94 +10,100 @@ use show::{field, outcome, text};
 // The aabaabaa of document 01, with 256 for a and 1 for b.
 const WORD: [u16; 8] = [256, 256, 1, 256, 256, 1, 256, 256];
 
-fn main() {
-    words();
-    splits();
-    pages();
-    pairs();
-    refusals();
-    best_refused();
-    limit();
+fn main(rt: HostRuntime) {
+    let rt = &rt;
+    words(rt);
+    splits(rt);
+    pages(rt);
+    pairs(rt);
+    refusals(rt);
+    best_refused(rt);
+    limit(rt);
 }
 
 // Low bytes that are equal, high bytes that decide a root, codes from 32,768 on, which come last, and
 // codes around 256.
-fn words() {
-    word(&[1u16, 257], 1);
-    word(&[1u16, 257, 1, 257], 1);
-    word(&[256u16, 1, 256, 1], 1);
-    word(&[32768u16, 1, 32768, 1], 1);
-    word(&[255u16, 256, 257, 65535, 255, 256, 257, 65535], 1);
-    word(&WORD, 1);
-    word(&[65535u16, 65535, 65535], 2);
+fn words(rt: &impl Print) {
+    word(rt, &[1u16, 257], 1);
+    word(rt, &[1u16, 257, 1, 257], 1);
+    word(rt, &[256u16, 1, 256, 1], 1);
+    word(rt, &[32768u16, 1, 32768, 1], 1);
+    word(rt, &[255u16, 256, 257, 65535, 255, 256, 257, 65535], 1);
+    word(rt, &WORD, 1);
+    word(rt, &[65535u16, 65535, 65535], 2);
 }
 
 // Ends, and for each a run number and the end.
-fn splits() {
-    given(&[263u16, 519], 1, &[2u32], &[1u32, 2]);
-    given(&[1u16, 257, 1, 257], 1, &[2u32, 4], &[1u32, 2, 1, 4]);
-    given(&[1u16, 257, 1, 257], 1, &[4u32], &[1u32, 4]);
-    given(&WORD, 1, &[8u32], &[2u32, 8]);
-    given(&WORD, 1, &[2u32, 8], &[1u32, 2, 2, 8]);
+fn splits(rt: &impl Print) {
+    given(rt, &[263u16, 519], 1, &[2u32], &[1u32, 2]);
+    given(rt, &[1u16, 257, 1, 257], 1, &[2u32, 4], &[1u32, 2, 1, 4]);
+    given(rt, &[1u16, 257, 1, 257], 1, &[4u32], &[1u32, 4]);
+    given(rt, &WORD, 1, &[8u32], &[2u32, 8]);
+    given(rt, &WORD, 1, &[2u32, 8], &[1u32, 2, 2, 8]);
 }
 
 // Units of one, three, four and five symbols.
-fn pages() {
-    lent_page(&WORD, 1, &[2u32, 8]);
-    lent_page(&[255u16, 256, 257, 65535, 255, 256, 257, 65535], 1, &[8u32]);
-    lent_page(&[10u16, 9, 8, 7, 6, 10, 9, 8, 7, 6], 1, &[10u32]);
-    lent_page(&[43981u16, 43981, 43981, 0, 0, 0], 2, &[3u32, 6]);
+fn pages(rt: &impl Print) {
+    lent_page(rt, &WORD, 1, &[2u32, 8]);
+    lent_page(
+        rt,
+        &[255u16, 256, 257, 65535, 255, 256, 257, 65535],
+        1,
+        &[8u32],
+    );
+    lent_page(rt, &[10u16, 9, 8, 7, 6, 10, 9, 8, 7, 6], 1, &[10u32]);
+    lent_page(rt, &[43981u16, 43981, 43981, 0, 0, 0], 2, &[3u32, 6]);
 }
 
 // Either word first, neither, and the empty word.
-fn pairs() {
+fn pairs(rt: &impl Print) {
     let none = [0u16; 0];
-    lent_pair(&[1u16, 257, 1, 257], &[1u16, 1, 257, 257], 1);
-    lent_pair(&[1u16, 1, 257, 257], &[1u16, 257, 1, 257], 1);
-    lent_pair(&[1u16, 257], &[257u16, 257], 1);
-    lent_pair(&[1u16, 257], &[263u16, 519], 1);
-    lent_pair(&none, &[257u16, 257], 2);
+    lent_pair(rt, &[1u16, 257, 1, 257], &[1u16, 1, 257, 257], 1);
+    lent_pair(rt, &[1u16, 1, 257, 257], &[1u16, 257, 1, 257], 1);
+    lent_pair(rt, &[1u16, 257], &[257u16, 257], 1);
+    lent_pair(rt, &[1u16, 257], &[263u16, 519], 1);
+    lent_pair(rt, &none, &[257u16, 257], 2);
 }
 
 // 1 before 12; 12, and 8 of best squares; then 7, 9 and 10.
-fn refusals() {
+fn refusals(rt: &impl Print) {
     let over = [256u16; 70001];
-    one_place(&over, 3, 3);
-    one_place(&WORD, 3, 3);
-    one_place(&WORD, 1, 1);
+    one_place(rt, &over, 3, 3);
+    one_place(rt, &WORD, 3, 3);
+    one_place(rt, &WORD, 1, 1);
 }
 
 // 8 of best split; and 7 with a working table that is long enough.
-fn best_refused() {
+fn best_refused(rt: &impl Print) {
     let mut ends = [7u32; 1];
     let mut work = [7u32; 37];
-    best_split(&WORD, 1, 3, &mut ends, &mut work);
-    best_split(&WORD, 1, 2, &mut ends, &mut work);
-    best_squares(&WORD, 2, &mut ends, &mut work);
+    best_split(rt, &WORD, 1, 3, &mut ends, &mut work);
+    best_split(rt, &WORD, 1, 2, &mut ends, &mut work);
+    best_squares(rt, &WORD, 2, &mut ends, &mut work);
 }
 
 // As many symbols as a word can have.
-fn limit() {
+fn limit(rt: &impl Print) {
     let longest = [65535u16; 4096];
     let mut table = [7u32; 5];
-    runs(&longest, &mut table);
-    judged(&longest, 1, &[4096u32]);
+    runs(rt, &longest, &mut table);
+    judged(rt, &longest, 1, &[4096u32]);
 }
 
 // The calls that are told no ends, at the last position and with both choices.
-fn word(w: &[u16], edition: u32) {
+fn word(rt: &impl Print, w: &[u16], edition: u32) {
     let mut units = [7u32; 9];
     let mut table = [7u32; 17];
     let mut numbers = [7u32; 3];
-    part(w, edition, &mut units);
-    runs(w, &mut table);
-    nodes(w, edition, &mut numbers);
-    both_best(w, edition, 1);
-    both_best(w, edition, 2);
+    part(rt, w, edition, &mut units);
+    runs(rt, w, &mut table);
+    nodes(rt, w, edition, &mut numbers);
+    both_best(rt, w, edition, 1);
+    both_best(rt, w, edition, 2);
 }
 
 // Both best calls on a word of at most eight symbols, with a place more than is needed.
-fn both_best(w: &[u16], edition: u32, choice: u32) {
+fn both_best(rt: &impl Print, w: &[u16], edition: u32, choice: u32) {
     let zero: usize = 0;
     let mut ends = [7u32; 3];
     let mut work = [7u32; 37];
@@ -105,209 +111,219 @@ fn both_best(w: &[u16], edition: u32, choice: u32) {
     let mut other_work = [7u32; 37];
     if w.len() <= 8 {
         let end = 4 * w.len() + 5;
-        best_split(w, edition, choice, &mut ends, &mut work[zero..end]);
-        best_squares(w, choice, &mut other_ends, &mut other_work[zero..end]);
+        best_split(rt, w, edition, choice, &mut ends, &mut work[zero..end]);
+        best_squares(rt, w, choice, &mut other_ends, &mut other_work[zero..end]);
     }
 }
 
-fn given(w: &[u16], edition: u32, ends: &[u32], numbers: &[u32]) {
+fn given(rt: &impl Print, w: &[u16], edition: u32, ends: &[u32], numbers: &[u32]) {
     let mut table = [7u32; 3];
-    judged(w, edition, ends);
-    path(w, edition, ends, &mut table);
-    judged_path(w, edition, numbers);
+    judged(rt, w, edition, ends);
+    path(rt, w, edition, ends, &mut table);
+    judged_path(rt, w, edition, numbers);
 }
 
-fn lent_page(w: &[u16], edition: u32, ends: &[u32]) {
+fn lent_page(rt: &impl Print, w: &[u16], edition: u32, ends: &[u32]) {
     let mut out = [46u8; 123];
-    page(w, edition, ends, &mut out);
+    page(rt, w, edition, ends, &mut out);
 }
 
-fn lent_pair<'a>(a: &'a [u16], b: &'a [u16], edition: u32) {
+fn lent_pair<'a>(rt: &impl Print, a: &'a [u16], b: &'a [u16], edition: u32) {
     let mut work = [7u32; 21];
     let mut other = [7u32; 21];
-    which(a, b, edition, &mut work);
-    block(a, b, edition, &mut other);
+    which(rt, a, b, edition, &mut work);
+    block(rt, a, b, edition, &mut other);
 }
 
 // Every call, with one place in each table, one byte for a page, and one number for a path.
-fn one_place(w: &[u16], edition: u32, choice: u32) {
+fn one_place(rt: &impl Print, w: &[u16], edition: u32, choice: u32) {
     let mut table = [7u32; 1];
     let mut work = [7u32; 1];
     let mut out = [46u8; 1];
-    part(w, edition, &mut table);
-    runs(w, &mut table);
-    nodes(w, edition, &mut table);
-    best_split(w, edition, choice, &mut table, &mut work);
-    best_squares(w, choice, &mut table, &mut work);
-    judged(w, edition, &[2u32, 8]);
-    path(w, edition, &[2u32, 8], &mut table);
-    judged_path(w, edition, &[1u32]);
-    page(w, edition, &[2u32, 8], &mut out);
-    which(w, &WORD, edition, &mut work);
-    block(&WORD, w, edition, &mut work);
+    part(rt, w, edition, &mut table);
+    runs(rt, w, &mut table);
+    nodes(rt, w, edition, &mut table);
+    best_split(rt, w, edition, choice, &mut table, &mut work);
+    best_squares(rt, w, choice, &mut table, &mut work);
+    judged(rt, w, edition, &[2u32, 8]);
+    path(rt, w, edition, &[2u32, 8], &mut table);
+    judged_path(rt, w, edition, &[1u32]);
+    page(rt, w, edition, &[2u32, 8], &mut out);
+    which(rt, w, &WORD, edition, &mut work);
+    block(rt, &WORD, w, edition, &mut work);
 }
 
 // The whole word as a part.
-fn part(w: &[u16], edition: u32, units: &mut [u32]) {
-    asked(b"part", w, edition);
-    answered(periods::part_16(w, edition, 1, length(w), units));
-    list(b" units", units);
-    text(b"\n");
+fn part(rt: &impl Print, w: &[u16], edition: u32, units: &mut [u32]) {
+    asked(rt, b"part", w, edition);
+    answered(rt, periods::part_16(w, edition, 1, length(w), units));
+    list(rt, b" units", units);
+    text(rt, b"\n");
 }
 
-fn answered(answer: PartAnswer) {
+fn answered(rt: &impl Print, answer: PartAnswer) {
     match answer {
-        PartAnswer::Described(d) => described(d),
+        PartAnswer::Described(d) => described(rt, d),
         PartAnswer::Refused(r) => {
-            text(b",refused,");
-            show::code(r);
+            text(rt, b",refused,");
+            show::code(rt, r);
         }
     }
 }
 
-fn described(d: Description) {
-    field(d.period);
-    field(d.exponent);
-    field(d.remainder);
+fn described(rt: &impl Print, d: Description) {
+    field(rt, d.period);
+    field(rt, d.exponent);
+    field(rt, d.remainder);
     if d.repetition {
-        text(b",block");
+        text(rt, b",block");
     } else {
-        text(b",no block");
+        text(rt, b",no block");
     }
 }
 
-fn runs(w: &[u16], table: &mut [u32]) {
-    text(b"runs");
-    name(w);
-    outcome(run_table::runs_16(w, table));
-    list(b" table", table);
-    text(b"\n");
+fn runs(rt: &impl Print, w: &[u16], table: &mut [u32]) {
+    text(rt, b"runs");
+    name(rt, w);
+    outcome(rt, run_table::runs_16(w, table));
+    list(rt, b" table", table);
+    text(rt, b"\n");
 }
 
 // The nodes at the last position.
-fn nodes(w: &[u16], edition: u32, table: &mut [u32]) {
-    asked(b"nodes", w, edition);
-    outcome(nodes::nodes_16(w, edition, length(w), table));
-    list(b" runs", table);
-    text(b"\n");
+fn nodes(rt: &impl Print, w: &[u16], edition: u32, table: &mut [u32]) {
+    asked(rt, b"nodes", w, edition);
+    outcome(rt, nodes::nodes_16(w, edition, length(w), table));
+    list(rt, b" runs", table);
+    text(rt, b"\n");
 }
 
-fn best_split(w: &[u16], edition: u32, choice: u32, ends: &mut [u32], work: &mut [u32]) {
-    asked(b"best split", w, edition);
-    field(choice);
-    outcome(repetitions::best_split_16(w, edition, choice, ends, work));
-    list(b" ends", ends);
-    list(b" work", work);
-    text(b"\n");
+fn best_split(
+    rt: &impl Print,
+    w: &[u16],
+    edition: u32,
+    choice: u32,
+    ends: &mut [u32],
+    work: &mut [u32],
+) {
+    asked(rt, b"best split", w, edition);
+    field(rt, choice);
+    outcome(
+        rt,
+        repetitions::best_split_16(w, edition, choice, ends, work),
+    );
+    list(rt, b" ends", ends);
+    list(rt, b" work", work);
+    text(rt, b"\n");
 }
 
-fn best_squares(w: &[u16], choice: u32, ends: &mut [u32], work: &mut [u32]) {
-    text(b"best squares");
-    name(w);
-    field(choice);
-    outcome(squares::best_squares_16(w, choice, ends, work));
-    list(b" ends", ends);
-    list(b" work", work);
-    text(b"\n");
+fn best_squares(rt: &impl Print, w: &[u16], choice: u32, ends: &mut [u32], work: &mut [u32]) {
+    text(rt, b"best squares");
+    name(rt, w);
+    field(rt, choice);
+    outcome(rt, squares::best_squares_16(w, choice, ends, work));
+    list(rt, b" ends", ends);
+    list(rt, b" work", work);
+    text(rt, b"\n");
 }
 
 // The same ends as those of blocks, and of squares.
-fn judged(w: &[u16], edition: u32, ends: &[u32]) {
-    asked(b"judge split", w, edition);
-    outcome(repetitions::judge_split_16(w, edition, ends));
-    list(b" ends", ends);
-    text(b"\njudge squares");
-    name(w);
-    outcome(squares::judge_squares_16(w, ends));
-    list(b" ends", ends);
-    text(b"\n");
+fn judged(rt: &impl Print, w: &[u16], edition: u32, ends: &[u32]) {
+    asked(rt, b"judge split", w, edition);
+    outcome(rt, repetitions::judge_split_16(w, edition, ends));
+    list(rt, b" ends", ends);
+    text(rt, b"\njudge squares");
+    name(rt, w);
+    outcome(rt, squares::judge_squares_16(w, ends));
+    list(rt, b" ends", ends);
+    text(rt, b"\n");
 }
 
-fn path(w: &[u16], edition: u32, ends: &[u32], table: &mut [u32]) {
-    asked(b"path", w, edition);
-    outcome(paths::path_of_split_16(w, edition, ends, table));
-    list(b" ends", ends);
-    list(b" runs", table);
-    text(b"\n");
+fn path(rt: &impl Print, w: &[u16], edition: u32, ends: &[u32], table: &mut [u32]) {
+    asked(rt, b"path", w, edition);
+    outcome(rt, paths::path_of_split_16(w, edition, ends, table));
+    list(rt, b" ends", ends);
+    list(rt, b" runs", table);
+    text(rt, b"\n");
 }
 
-fn judged_path(w: &[u16], edition: u32, numbers: &[u32]) {
-    asked(b"judge path", w, edition);
-    outcome(paths::judge_path_16(w, edition, numbers));
-    list(b" numbers", numbers);
-    text(b"\n");
+fn judged_path(rt: &impl Print, w: &[u16], edition: u32, numbers: &[u32]) {
+    asked(rt, b"judge path", w, edition);
+    outcome(rt, paths::judge_path_16(w, edition, numbers));
+    list(rt, b" numbers", numbers);
+    text(rt, b"\n");
 }
 
 // The answer, and below it the bytes that are lent.
-fn page(w: &[u16], edition: u32, ends: &[u32], out: &mut [u8]) {
-    asked(b"page", w, edition);
-    outcome(pages::write_page_16(w, edition, ends, out));
-    list(b" ends", ends);
-    text(b"\n");
-    text(out);
-    text(b"\n");
+fn page(rt: &impl Print, w: &[u16], edition: u32, ends: &[u32], out: &mut [u8]) {
+    asked(rt, b"page", w, edition);
+    outcome(rt, pages::write_page_16(w, edition, ends, out));
+    list(rt, b" ends", ends);
+    text(rt, b"\n");
+    text(rt, out);
+    text(rt, b"\n");
 }
 
-fn which(a: &[u16], b: &[u16], edition: u32, work: &mut [u32]) {
-    text(b"which");
-    name(a);
-    asked(b" or", b, edition);
-    outcome(comparison::which_first_16(a, b, edition, work));
-    list(b" work", work);
-    text(b"\n");
+fn which(rt: &impl Print, a: &[u16], b: &[u16], edition: u32, work: &mut [u32]) {
+    text(rt, b"which");
+    name(rt, a);
+    asked(rt, b" or", b, edition);
+    outcome(rt, comparison::which_first_16(a, b, edition, work));
+    list(rt, b" work", work);
+    text(rt, b"\n");
 }
 
 // The length of the first block, and its symbols.
-fn block<'a>(a: &'a [u16], b: &'a [u16], edition: u32, work: &mut [u32]) {
-    text(b"block");
-    name(a);
-    asked(b" or", b, edition);
+fn block<'a>(rt: &impl Print, a: &'a [u16], b: &'a [u16], edition: u32, work: &mut [u32]) {
+    text(rt, b"block");
+    name(rt, a);
+    asked(rt, b" or", b, edition);
     let part = comparison::first_block_16(a, b, edition, work);
-    field(length(part));
-    text(b" symbols:");
-    codes(part);
-    list(b" work", work);
-    text(b"\n");
+    field(rt, length(part));
+    text(rt, b" symbols:");
+    codes(rt, part);
+    list(rt, b" work", work);
+    text(rt, b"\n");
 }
 
 fn length(w: &[u16]) -> u32 {
     (w.len() % 1000000) as u32
 }
 
-fn asked(call: &[u8], w: &[u16], edition: u32) {
-    text(call);
-    name(w);
-    field(edition);
+fn asked(rt: &impl Print, call: &[u8], w: &[u16], edition: u32) {
+    text(rt, call);
+    name(rt, w);
+    field(rt, edition);
 }
 
 // A name, a colon, and the numbers, each after a space.
-fn list(name: &[u8], xs: &[u32]) {
-    text(name);
-    text(b":");
-    show::numbers(32, xs);
+fn list(rt: &impl Print, name: &[u8], xs: &[u32]) {
+    text(rt, name);
+    text(rt, b":");
+    show::numbers(rt, 32, xs);
 }
 
 // The symbols; of a long word their count.
-fn name(w: &[u16]) {
+fn name(rt: &impl Print, w: &[u16]) {
     if 10 < w.len() {
-        text(b" ");
-        show::number(length(w));
-        text(b" symbols");
+        text(rt, b" ");
+        show::number(rt, length(w));
+        text(rt, b" symbols");
         return;
     }
-    codes(w);
+    codes(rt, w);
 }
 
-fn codes(w: &[u16]) {
+fn codes(rt: &impl Print, w: &[u16]) {
     let mut i: usize = 0;
     while i < w.len() {
-        code(w[i]);
+        code(rt, w[i]);
         i += 1;
     }
 }
 
 // A symbol after a space.
-fn code(x: u16) {
-    text(b" ");
-    show::number(x as u32);
+fn code(rt: &impl Print, x: u16) {
+    text(rt, b" ");
+    show::number(rt, x as u32);
 }

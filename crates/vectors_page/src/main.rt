@@ -5,18 +5,20 @@
 
 use show::text;
 
-fn main() {
-    sequences();
-    second_edition();
-    lent_bytes();
-    refusals();
-    symbols();
-    limits();
+fn main(rt: HostRuntime) {
+    let rt = &rt;
+    sequences(rt);
+    second_edition(rt);
+    lent_bytes(rt);
+    refusals(rt);
+    symbols(rt);
+    limits(rt);
 }
 
 // The best splits of the sequences of document 01, with a byte more than each page needs.
-fn sequences() {
+fn sequences(rt: &impl Print) {
     rows(
+        rt,
         b",1,1|aa,1,62,2|aaaa,1,62,4|aaaa,1,123,2,4|aaaaa,1,62,5|aaaaa,1,123,2,5|\
         ababa,1,62,5|aabb,1,123,2,4|aabaabaa,1,62,8|aabaabaa,1,123,2,8|abaababaab,1,62,10|\
         abaabaababaabaabababa,1,123,16,21|abaabaababaabaabababa,1,245,6,10,16,21|\
@@ -26,24 +28,27 @@ fn sequences() {
 }
 
 // Edition 2, where a block has three turns.
-fn second_edition() {
+fn second_edition(rt: &impl Print) {
     rows(
+        rt,
         b",2,1|aaa,2,62,3|aaaaaa,2,62,6|aaaaaa,2,123,3,6|ababab,2,62,6|\
         aabaabaabcccc,2,123,9,13|aabaabaa,2,123,2,8|aaaa,2,123,2,4|",
     );
 }
 
 // Just the bytes that a page needs, one fewer, none: refusal 7.
-fn lent_bytes() {
+fn lent_bytes(rt: &impl Print) {
     rows(
+        rt,
         b",1,0|aa,1,61,2|aa,1,60,2|aa,1,0,2|aabaabaa,1,122,2,8|aabaabaa,1,121,2,8|\
         aabaabaa,1,61,2,8|",
     );
 }
 
 // 12, 3, 4 and 5 as the judge gives them, with no bytes lent, so before 7; 12 comes first.
-fn refusals() {
+fn refusals(rt: &impl Print) {
     rows(
+        rt,
         b"aabaabaa,0,0,2,8|aabaabaa,3,0,2,8|aabaabaa,4294967295,123,2,2,8|aabaabaa,1,0,3,8|\
         aabaabaa,1,0,2,2,8|aabaabaa,1,0,2,9|aabaabaa,1,0,2|aabaabaa,1,0|ab,1,0,2|,1,0,0|\
         aabaabaa,1,123,2,4|",
@@ -51,24 +56,28 @@ fn refusals() {
 }
 
 // Symbols of one and two digits, the line end among them, and units of nine symbols and more.
-fn symbols() {
+fn symbols(rt: &impl Print) {
     bytes(
+        rt,
         b"0, 9, 10, 255 twice",
         b"\x00\x09\x0a\xff\x00\x09\x0a\xff",
         &[8u32],
     );
-    bytes(b"10 three times", b"\x0a\x0a\x0a", &[3u32]);
+    bytes(rt, b"10 three times", b"\x0a\x0a\x0a", &[3u32]);
     bytes(
+        rt,
         b"nine symbols twice",
         b"\x01\x23\x45\x67\x89\xab\xcd\xef\x10\x01\x23\x45\x67\x89\xab\xcd\xef\x10",
         &[18u32],
     );
     bytes(
+        rt,
         b"ten symbols twice, and two more",
         b"\x01\x23\x45\x67\x89\xab\xcd\xef\x10\xff\x01\x23\x45\x67\x89\xab\xcd\xef\x10\xff\x01\x23",
         &[22u32],
     );
     bytes(
+        rt,
         b"another symbol before a unit of ten",
         b"\x07\x07\x01\x23\x45\x67\x89\xab\xcd\xef\x10\xff\x01\x23\x45\x67\x89\xab\xcd\xef\x10\xff",
         &[2u32, 22],
@@ -76,51 +85,52 @@ fn symbols() {
 }
 
 // The limit: the last two lines of the longest page; and refusal 1, which comes before 12.
-fn limits() {
+fn limits(rt: &impl Print) {
     let most = [97u8; 4096];
     let mut ends = [0u32; 2048];
     let mut work = [0u32; 16388];
     repetitions::best_split(&most, 1, 2, &mut ends, &mut work);
     let mut out = [46u8; 124929];
-    text(b"page,4096 equal, blocks of 2,1");
-    show::outcome(pages::write_page(&most, 1, &ends, &mut out));
-    last_lines(&out, 124806);
+    text(rt, b"page,4096 equal, blocks of 2,1");
+    show::outcome(rt, pages::write_page(&most, 1, &ends, &mut out));
+    last_lines(rt, &out, 124806);
     let over = [97u8; 70001];
-    text(b"page,70001 equal,3");
-    show::outcome(pages::write_page(&over, 3, &ends, &mut out));
-    text(b"\n");
+    text(rt, b"page,70001 equal,3");
+    show::outcome(rt, pages::write_page(&over, 3, &ends, &mut out));
+    text(rt, b"\n");
 }
 
-fn last_lines(out: &[u8], from: usize) {
-    text(b"\n");
+fn last_lines(rt: &impl Print, out: &[u8], from: usize) {
+    text(rt, b"\n");
     let end = out.len();
     if from <= end {
-        text(&out[from..end]);
+        text(rt, &out[from..end]);
     }
-    text(b"\n");
+    text(rt, b"\n");
 }
 
-fn rows(table: &[u8]) {
+fn rows(rt: &impl Print, table: &[u8]) {
     let mut at: usize = 0;
     while at < table.len() {
         let end = show::cases::place(table, at, show::cases::BAR);
-        row(&table[at..end]);
+        row(rt, &table[at..end]);
         at = end + 1;
     }
 }
 
 // A word, an edition, how many bytes are lent, and the ends.
-fn row(row: &[u8]) {
+fn row(rt: &impl Print, row: &[u8]) {
     let zero: usize = 0;
     let two: usize = 2;
     let mut numbers = [0u32; 8];
     let count = show::cases::values(row, &mut numbers);
     let end = show::cases::place(row, zero, decimals::COMMA);
-    text(b"page,");
-    text(row);
+    text(rt, b"page,");
+    text(rt, row);
     if two <= count {
         if count <= 8 {
             lent(
+                rt,
                 &row[zero..end],
                 numbers[0],
                 numbers[1],
@@ -131,27 +141,27 @@ fn row(row: &[u8]) {
 }
 
 // A page, and every byte that was lent, dots where it was not written.
-fn lent(w: &[u8], edition: u32, room: u32, ends: &[u32]) {
+fn lent(rt: &impl Print, w: &[u8], edition: u32, room: u32, ends: &[u32]) {
     let zero: usize = 0;
     let mut out = [46u8; 256];
     let end = room as usize;
     if room <= 256 {
-        page(w, edition, ends, &mut out[zero..end]);
+        page(rt, w, edition, ends, &mut out[zero..end]);
     }
 }
 
 // A page of edition 1, with 123 bytes lent.
-fn bytes(name: &[u8], w: &[u8], ends: &[u32]) {
+fn bytes(rt: &impl Print, name: &[u8], w: &[u8], ends: &[u32]) {
     let mut out = [46u8; 123];
-    text(b"page,");
-    text(name);
-    show::numbers(decimals::COMMA, ends);
-    page(w, 1, ends, &mut out);
+    text(rt, b"page,");
+    text(rt, name);
+    show::numbers(rt, decimals::COMMA, ends);
+    page(rt, w, 1, ends, &mut out);
 }
 
-fn page(w: &[u8], edition: u32, ends: &[u32], out: &mut [u8]) {
-    show::outcome(pages::write_page(w, edition, ends, out));
-    text(b"\n");
-    text(out);
-    text(b"\n");
+fn page(rt: &impl Print, w: &[u8], edition: u32, ends: &[u32], out: &mut [u8]) {
+    show::outcome(rt, pages::write_page(w, edition, ends, out));
+    text(rt, b"\n");
+    text(rt, out);
+    text(rt, b"\n");
 }

@@ -7,7 +7,7 @@ use decimals::COMMA;
 use show::{field, outcome, text};
 
 // What a table of cases is for, and what the numbers of a row are.
-#[derive(Drop)]
+#[derive(Clone, Copy)]
 enum Call {
     // none: best squares with both choices, and a place more than is needed
     Both,
@@ -17,19 +17,21 @@ enum Call {
     Judge,
 }
 
-fn main() {
-    words();
-    lent_places();
-    judged();
-    symbols();
-    generated();
-    limits();
+fn main(rt: HostRuntime) {
+    let rt = &rt;
+    words(rt);
+    lent_places(rt);
+    judged(rt);
+    symbols(rt);
+    generated(rt);
+    limits(rt);
 }
 
 // Odd lengths, equal letters, halves that are powers, blocks that are no squares, and the words of
 // the documents.
-fn words() {
+fn words(rt: &impl Print) {
     rows(
+        rt,
         Call::Both,
         b"|a|aa|ab|aaa|aaaa|aaaaa|aaaaaa|aaaaaaaa|abab|ababa|ababab|abababab|abba|aabb|\
         aabbaabb|aabaab|baabaa|aabaabaa|abaababaabbbaabbbb|abaabaababaabaabababa|\
@@ -39,8 +41,9 @@ fn words() {
 
 // Just the places that are needed, and one fewer of either table; then 8, 9 and 2, each before those
 // that it precedes, and the empty word.
-fn lent_places() {
+fn lent_places(rt: &impl Print) {
     rows(
+        rt,
         Call::Best,
         b"aabaabaa,1,2,36|aabaabaa,1,1,36|aabaabaa,2,0,36|aabaabaa,2,2,35|aaaa,1,1,20|\
         aaaa,1,0,20|aaaa,2,2,20|aaaa,2,1,20|aabaabaa,0,2,36|aabaabaa,3,2,35|\
@@ -50,8 +53,9 @@ fn lent_places() {
 }
 
 // Splits, and then for each end in turn 3 and 4, and then 5; a block that is no square is 4.
-fn judged() {
+fn judged(rt: &impl Print) {
     rows(
+        rt,
         Call::Judge,
         b"aaaa,4|aaaa,2,4|aaaa,1,4|aaaa,3,4|aaaa,2,3,4|aaaa,2,2,4|aaaa,2,0|aaaa,4,4|\
         aaaa,0|aaaa,5|aaaa,2,4294967295|aaaa,2|aaaa|aabaabaa,2,8|aabaabaa,6,8|\
@@ -64,17 +68,25 @@ fn judged() {
 }
 
 // Symbols that are not letters, and one pair of tables for words of different lengths.
-fn symbols() {
+fn symbols(rt: &impl Print) {
     let mut ends = [7u32; 3];
     let mut work = [7u32; 29];
-    named(b"0 255 twice", b"\x00\xff\x00\xff", &mut ends, &mut work);
     named(
+        rt,
+        b"0 255 twice",
+        b"\x00\xff\x00\xff",
+        &mut ends,
+        &mut work,
+    );
+    named(
+        rt,
         b"128 127 127 twice",
         b"\x80\x7f\x7f\x80\x7f\x7f",
         &mut ends,
         &mut work,
     );
     named(
+        rt,
         b"255 twice and 0 twice",
         b"\xff\xff\x00\x00",
         &mut ends,
@@ -83,8 +95,9 @@ fn symbols() {
 }
 
 // Squares joined, of halves of up to five letters; every fourth word has its middle letter changed.
-fn generated() {
+fn generated(rt: &impl Print) {
     rows(
+        rt,
         Call::Both,
         b"ababababbbabaaba|aabaabcccbcbbabbab|bbabbaabbababbabbabbab|bbcbbcbbbbaabbababba|\
         aaabbaaabbbababbabba|aaaaaacbcaccbcacbcacbcac|abbbbabbbbbabaaaaaaa|\
@@ -103,80 +116,80 @@ fn generated() {
 }
 
 // The limit, an odd length below it, and refusal 1, which comes before 8.
-fn limits() {
+fn limits(rt: &impl Print) {
     let longest = [97u8; 4096];
     let odd = [97u8; 4095];
     let over = [97u8; 70001];
     let mut ends = [7u32; 2049];
     let mut work = [7u32; 16389];
-    brief(b"4096 equal", &longest, 1, &mut ends, &mut work);
-    brief(b"4096 equal", &longest, 2, &mut ends, &mut work);
-    brief(b"4095 equal", &odd, 2, &mut ends, &mut work);
-    brief(b"70001 equal", &over, 1, &mut ends, &mut work);
-    brief(b"70001 equal", &over, 3, &mut ends, &mut work);
-    long_verdicts(&longest, &over);
+    brief(rt, b"4096 equal", &longest, 1, &mut ends, &mut work);
+    brief(rt, b"4096 equal", &longest, 2, &mut ends, &mut work);
+    brief(rt, b"4095 equal", &odd, 2, &mut ends, &mut work);
+    brief(rt, b"70001 equal", &over, 1, &mut ends, &mut work);
+    brief(rt, b"70001 equal", &over, 3, &mut ends, &mut work);
+    long_verdicts(rt, &longest, &over);
 }
 
-fn long_verdicts(longest: &[u8], over: &[u8]) {
-    verdict(b"4096 equal", longest, &[4096u32]);
-    verdict(b"4096 equal", longest, &[2048u32, 4096]);
-    verdict(b"4096 equal", longest, &[4095u32, 4096]);
-    verdict(b"4096 equal", longest, &[4096u32, 4097]);
-    verdict(b"70001 equal", over, &[0u32]);
-    verdict(b"70001 equal", over, &[4097u32]);
+fn long_verdicts(rt: &impl Print, longest: &[u8], over: &[u8]) {
+    verdict(rt, b"4096 equal", longest, &[4096u32]);
+    verdict(rt, b"4096 equal", longest, &[2048u32, 4096]);
+    verdict(rt, b"4096 equal", longest, &[4095u32, 4096]);
+    verdict(rt, b"4096 equal", longest, &[4096u32, 4097]);
+    verdict(rt, b"70001 equal", over, &[0u32]);
+    verdict(rt, b"70001 equal", over, &[4097u32]);
 }
 
-fn rows(call: Call, table: &[u8]) {
+fn rows(rt: &impl Print, call: Call, table: &[u8]) {
     let mut at: usize = 0;
     while at < table.len() {
         let end = show::cases::place(table, at, show::cases::BAR);
-        row(call, &table[at..end]);
+        row(rt, call, &table[at..end]);
         at = end + 1;
     }
 }
 
-fn row(call: Call, row: &[u8]) {
+fn row(rt: &impl Print, call: Call, row: &[u8]) {
     match call {
-        Call::Both => both(row),
-        Call::Best => best(row),
-        Call::Judge => judge(row),
+        Call::Both => both(rt, row),
+        Call::Best => best(rt, row),
+        Call::Judge => judge(rt, row),
     }
 }
 
-fn both(w: &[u8]) {
+fn both(rt: &impl Print, w: &[u8]) {
     if w.len() <= 24 {
         let space = (4 * w.len() + 5) as u32;
-        chosen(w, 1, space);
-        chosen(w, 2, space);
+        chosen(rt, w, 1, space);
+        chosen(rt, w, 2, space);
     }
 }
 
-fn chosen(w: &[u8], choice: u32, space: u32) {
+fn chosen(rt: &impl Print, w: &[u8], choice: u32, space: u32) {
     let zero: usize = 0;
     let end = space as usize;
     let mut ends = [7u32; 12];
     let mut work = [7u32; 101];
-    text(b"best,");
-    text(w);
-    field(choice);
+    text(rt, b"best,");
+    text(rt, w);
+    field(rt, choice);
     if space <= 101 {
-        answered(w, choice, &mut ends, &mut work[zero..end]);
+        answered(rt, w, choice, &mut ends, &mut work[zero..end]);
     }
 }
 
-fn best(row: &[u8]) {
+fn best(rt: &impl Print, row: &[u8]) {
     let zero: usize = 0;
     let mut numbers = [0u32; 3];
     let count = show::cases::values(row, &mut numbers);
     let end = show::cases::place(row, zero, COMMA);
-    text(b"best,");
-    text(row);
+    text(rt, b"best,");
+    text(rt, row);
     if count == 3 {
-        lent(&row[zero..end], numbers[0], numbers[1], numbers[2]);
+        lent(rt, &row[zero..end], numbers[0], numbers[1], numbers[2]);
     }
 }
 
-fn lent(w: &[u8], choice: u32, places: u32, space: u32) {
+fn lent(rt: &impl Print, w: &[u8], choice: u32, places: u32, space: u32) {
     let zero: usize = 0;
     let last = places as usize;
     let end = space as usize;
@@ -184,77 +197,87 @@ fn lent(w: &[u8], choice: u32, places: u32, space: u32) {
     let mut work = [7u32; 36];
     if places <= 2 {
         if space <= 36 {
-            answered(w, choice, &mut ends[zero..last], &mut work[zero..end]);
+            answered(rt, w, choice, &mut ends[zero..last], &mut work[zero..end]);
         }
     }
 }
 
-fn answered(w: &[u8], choice: u32, ends: &mut [u32], work: &mut [u32]) {
-    outcome(squares::best_squares(w, choice, ends, work));
-    list(b" ends", ends);
-    list(b" work", work);
+fn answered(rt: &impl Print, w: &[u8], choice: u32, ends: &mut [u32], work: &mut [u32]) {
+    outcome(rt, squares::best_squares(w, choice, ends, work));
+    list(rt, b" ends", ends);
+    list(rt, b" work", work);
 }
 
-fn judge(row: &[u8]) {
+fn judge(rt: &impl Print, row: &[u8]) {
     let zero: usize = 0;
     let mut numbers = [0u32; 5];
     let count = show::cases::values(row, &mut numbers);
     let end = show::cases::place(row, zero, COMMA);
-    text(b"judge,");
-    text(row);
+    text(rt, b"judge,");
+    text(rt, row);
     if count <= 5 {
-        outcome(squares::judge_squares(&row[zero..end], &numbers[zero..count]));
+        outcome(
+            rt,
+            squares::judge_squares(&row[zero..end], &numbers[zero..count]),
+        );
     }
-    text(b"\n");
+    text(rt, b"\n");
 }
 
 // A word that is shown by a name, with both choices.
-fn named(name: &[u8], w: &[u8], ends: &mut [u32], work: &mut [u32]) {
-    named_choice(name, w, 1, ends, work);
-    named_choice(name, w, 2, ends, work);
+fn named(rt: &impl Print, name: &[u8], w: &[u8], ends: &mut [u32], work: &mut [u32]) {
+    named_choice(rt, name, w, 1, ends, work);
+    named_choice(rt, name, w, 2, ends, work);
 }
 
-fn named_choice(name: &[u8], w: &[u8], choice: u32, ends: &mut [u32], work: &mut [u32]) {
-    text(b"best,");
-    text(name);
-    field(choice);
-    answered(w, choice, ends, work);
+fn named_choice(
+    rt: &impl Print,
+    name: &[u8],
+    w: &[u8],
+    choice: u32,
+    ends: &mut [u32],
+    work: &mut [u32],
+) {
+    text(rt, b"best,");
+    text(rt, name);
+    field(rt, choice);
+    answered(rt, w, choice, ends, work);
 }
 
 // The same in short: the first and the last three places of the ends, and of the working table the
 // sizes of the longest prefixes of 4,096 symbols and the last ten places.
-fn brief(name: &[u8], w: &[u8], choice: u32, ends: &mut [u32], work: &mut [u32]) {
-    text(b"best,");
-    text(name);
-    field(choice);
-    outcome(squares::best_squares(w, choice, ends, work));
-    part(b" ends", ends, 0, 3);
-    part(b" last ends", ends, 2046, 2049);
-    part(b" sizes", work, 4092, 4098);
-    part(b" last places", work, 16379, 16389);
+fn brief(rt: &impl Print, name: &[u8], w: &[u8], choice: u32, ends: &mut [u32], work: &mut [u32]) {
+    text(rt, b"best,");
+    text(rt, name);
+    field(rt, choice);
+    outcome(rt, squares::best_squares(w, choice, ends, work));
+    part(rt, b" ends", ends, 0, 3);
+    part(rt, b" last ends", ends, 2046, 2049);
+    part(rt, b" sizes", work, 4092, 4098);
+    part(rt, b" last places", work, 16379, 16389);
 }
 
-fn verdict(name: &[u8], w: &[u8], ends: &[u32]) {
-    text(b"judge,");
-    text(name);
-    show::numbers(COMMA, ends);
-    outcome(squares::judge_squares(w, ends));
-    text(b"\n");
+fn verdict(rt: &impl Print, name: &[u8], w: &[u8], ends: &[u32]) {
+    text(rt, b"judge,");
+    text(rt, name);
+    show::numbers(rt, COMMA, ends);
+    outcome(rt, squares::judge_squares(w, ends));
+    text(rt, b"\n");
 }
 
 // A name, a colon, the numbers, each after a space, and the line's end.
-fn list(name: &[u8], xs: &[u32]) {
-    text(name);
-    text(b":");
-    show::numbers(32, xs);
-    text(b"\n");
+fn list(rt: &impl Print, name: &[u8], xs: &[u32]) {
+    text(rt, name);
+    text(rt, b":");
+    show::numbers(rt, 32, xs);
+    text(rt, b"\n");
 }
 
 // The places from one up to another, where the list has them.
-fn part(name: &[u8], xs: &[u32], from: usize, to: usize) {
+fn part(rt: &impl Print, name: &[u8], xs: &[u32], from: usize, to: usize) {
     if to <= xs.len() {
         if from <= to {
-            list(name, &xs[from..to]);
+            list(rt, name, &xs[from..to]);
         }
     }
 }

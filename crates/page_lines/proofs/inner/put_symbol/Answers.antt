@@ -1,0 +1,21 @@
+-- `page_lines::inner::put_symbol` meets its contract: with the digits that are still to be stored, those of the quotient that is left, the bytes are what they shall
+-- be. Assumes nothing.
+use mathlib.Core.Path.{sym, ◌∙◌}
+use Prim.Native.Nat.{◌-◌}
+use native.Mathlib.Omega.{arith}
+use lib.ListN.{length-set}
+use Rattle.page_lines.proofs.Columns.{digit_stored, digits-stored}
+use Rattle.page_lines.proofs.inner.put_symbol.Goals as goal
+
+pub loop-left-preserved : goal.loop-left-preserved
+loop-left-preserved c =
+    let l = c.loop-left in (
+      omega arith,
+      length-set l.out _ _ ∙ l.invariant.1,
+      sym (digit_stored l.out c.args.at l.left (l.left - 1) l.rest (omega arith)) ∙ l.invariant.2,
+    )
+
+pub returns : goal.returns
+returns c =
+    let l = c.loop-left in
+    sym (digits-stored l.out c.args.at l.left l.rest (omega arith)) ∙ l.invariant.2

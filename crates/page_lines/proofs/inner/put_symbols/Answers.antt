@@ -1,0 +1,49 @@
+-- `page_lines::inner::put_symbols` meets its contract: its loop keeps what is left to store, and spaces are last. Assumes nothing.
+use mathlib.Core.Path.{◌≡◌, refl, ap, subst, ◌∙◌}
+use mathlib.Core.List.{List, ◌++◌, append_assoc}
+use Prim.Native.Nat.{ℕ, ◌+◌, ◌-◌, ◌*◌}
+use native.Mathlib.Omega.{arith}
+use native.Mathlib.Nat.{mul-zero, mul-suc}
+use native.Mathlib.Numerals.{add-one}
+use lib.ListN.{length, get_or, drop}
+use lib.Seq.{sets}
+use Rattle.decimals.proofs.Claims.{digits-in_length}
+use Rattle.writers.proofs.Stores.{Left, stored, stored_length, left-all, left_as, left_less, left-last}
+use Rattle.page_lines.specs.Line.{spaces, hex_byte, hex_digits, symbols, left_aligned}
+use Rattle.page_lines.proofs.Columns.{symbols-length, symbols-more, symbols-done}
+use Rattle.page_lines.proofs.inner.put_symbols.Goals as goal
+
+pub loop-i-init : goal.loop-i-init
+loop-i-init c =
+    let g = c.args in
+    let s = symbols g.digits g.shown.now in
+    let ys = s ++ spaces (g.width - g.digits * length g.shown.now) in
+    let e = ap (λ (n : ℕ). s ++ spaces (g.width - n)) (symbols-length g.digits g.shown.now) in
+    (omega arith, refl, subst (λ (b : ℕ). Left g.out.now g.at (left_aligned g.width s) g.out.now b ys) {x = g.at} {y = g.at + g.digits * 0} (omega (arith, mul-zero g.digits)) (left-all g.out.now g.at (left_aligned g.width s) ys e))
+
+pub loop-i-preserved : goal.loop-i-preserved
+loop-i-preserved c =
+    let g = c.args in
+    let l = c.loop-i in
+    let xs = g.shown.now in
+    let x = get_or xs l.i 0 in
+    let blank = spaces (g.width - g.digits * length xs) in
+    let later = symbols g.digits (drop (l.i + 1) xs) in
+    let S = stored l.out (g.at + g.digits * l.i) (hex_digits g.digits x) c.put_symbol.new.out (g.at + g.digits * (l.i + 1))
+    (omega (arith, digits-in_length 16 hex_byte g.digits x, ap (λ (n : ℕ). g.digits * n) (add-one l.i), mul-suc g.digits l.i), c.put_symbol.ensures) in (
+      omega arith,
+      stored_length S ∙ l.invariant.1,
+      left_less (later ++ blank)
+          (left_as _ (ap (λ (s : List ℕ). s ++ blank) (symbols-more g.digits xs l.i (omega arith)) ∙ append_assoc (hex_digits g.digits x) later blank) l.invariant.2) S,
+    )
+
+pub returns : goal.returns
+returns c =
+    let g = c.args in
+    let l = c.loop-i in
+    let xs = g.shown.now in
+    let blank = spaces (g.width - g.digits * length xs) in
+    let e : l.i ≡ length xs = omega arith in
+    let S = stored l.out (g.at + g.digits * l.i) blank c.fill.new.out (g.at + g.digits * l.i + length blank)
+    (refl, c.fill.ensures ∙ ap (λ (i : ℕ). sets l.out (g.at + g.digits * l.i) (spaces (g.width - g.digits * i))) e) in
+    (left-last (left_as blank (ap (λ (s : List ℕ). s ++ blank) (symbols-done g.digits xs l.i (omega arith))) l.invariant.2) S).bytes

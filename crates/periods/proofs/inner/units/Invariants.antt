@@ -1,0 +1,23 @@
+-- `periods::inner::units` meets its contract: both loops keep `Upto` of proofs/Units.antt. The inner one keeps it from whatever table it held for at its start,
+-- so that it holds from the function's own. In both m + p rises and stays below 2 × length + 1. Assumes nothing.
+use mathlib.Core.Path.{sym, ◌∙◌}
+use mathlib.Core.List.{List}
+use Prim.Native.Nat.{ℕ, ◌+◌, ◌-◌, ◌≤◌, ◌<◌}
+use native.Mathlib.Omega.{arith}
+use lib.ListN.{length, get_or, set, length-set}
+use Rattle.periods.proofs.Claims.{smallest_period-empty}
+use Rattle.periods.proofs.UnitsTable.{units_none}
+use Rattle.periods.proofs.Units.{Upto, units_start, units_agree, units_next, units_next_low, units_next_high, units_whole, units_done}
+use Rattle.periods.proofs.inner.units.Given as goal
+
+abbrev pub invariant-loop-m : goal.invariant-loop-m
+invariant-loop-m l = (l.initial.m + l.initial.p ≤ l.m + l.p) × (1 ≤ l.p) × (l.p ≤ l.m) × (l.m ≤ l.n) × ((t : List ℕ) → Upto l.part t l.initial.table l.initial.m l.initial.p → Upto l.part t l.table l.m l.p)
+
+abbrev pub decreases-loop-m : goal.decreases-loop-m
+decreases-loop-m l = l.n + l.n + 1 - (l.m + l.p)
+
+abbrev pub invariant-outer : goal.invariant-outer
+invariant-outer l = (1 ≤ l.p) × (l.p ≤ l.m) × (l.m ≤ l.n) × Upto l.part l.initial.table l.table l.m l.p
+
+abbrev pub decreases-outer : goal.decreases-outer
+decreases-outer l = l.n + l.n + 1 - (l.m + l.p)
