@@ -1,13 +1,8 @@
 -- `periods::bytes::units` meets its contract: both loops keep `Upto` of proofs/Units.antt. The inner one keeps it from whatever table it held for at its start,
 -- so that it holds from the function's own. In both m + p rises and stays below 2 × length + 1. Assumes nothing.
-use mathlib.Core.Path.{sym, ◌∙◌}
 use mathlib.Core.List.{List}
-use Prim.Native.Nat.{ℕ, ◌+◌, ◌-◌, ◌≤◌, ◌<◌}
-use native.Mathlib.Omega.{arith}
-use lib.ListN.{length, get_or, set, length-set}
-use Rattle.periods.proofs.Claims.{smallest_period-empty}
-use Rattle.periods.proofs.UnitsTable.{units_none}
-use Rattle.periods.proofs.Units.{Upto, units_start, units_agree, units_next, units_next_low, units_next_high, units_whole, units_done}
+use Prim.Native.Nat.{ℕ, ◌+◌, ◌-◌, ◌≤◌}
+use Rattle.periods.proofs.Units.{Upto}
 use Rattle.periods.proofs.bytes.units.Given as goal
 
 abbrev pub invariant-loop-m : goal.invariant-loop-m

@@ -1,18 +1,9 @@
 -- `periods::inner::block_unit` meets its contract. The outer loop keeps that no number up to p is a period; the inner one that the pairs below i agree. Assumes
 -- nothing.
-use mathlib.Core.Path.{◌≡◌, sym, ◌∙◌}
-use mathlib.Core.Bool.{true}
-use mathlib.Core.List.{List}
+use mathlib.Core.Path.{◌≡◌}
 use Prim.Native.Nat.{ℕ, ◌+◌, ◌-◌, ◌<◌, ◌≤◌}
-use native.Mathlib.Omega.{arith}
-use native.Mathlib.Decide.{dec_lt}
-use native.Mathlib.Nat.{mul-le-mul_right}
-use borrow.Author.Count.{below_more, below_none}
-use borrow.Author.Tests.{not-true, not-false}
-use borrow.Author.Rules.{rules}
-use lib.ListN.{length, get_or}
-use Rattle.periods.specs.Period.{Period, SmallestPeriod, unit_memory, block_of?}
-use Rattle.periods.proofs.BlockUnit.{block_of_means, block_unit-found, block_unit-none}
+use lib.ListN.{get_or}
+use Rattle.periods.specs.Period.{Period, unit_memory}
 use Rattle.periods.proofs.inner.block_unit.Given as goal
 
 abbrev pub invariant-loop-i : goal.invariant-loop-i

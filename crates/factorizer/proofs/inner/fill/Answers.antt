@@ -1,0 +1,56 @@
+-- `factorizer::inner::fill` meets its contract: its loop keeps `Windowed` of specs/Window.antt. Assumes nothing.
+use mathlib.Core.Path.{◌≡◌, refl, sym, ◌∙◌, subst}
+use mathlib.Core.List.{List}
+use Prim.Native.Nat.{ℕ, ◌+◌, ◌*◌, ◌≤◌}
+use native.Mathlib.Omega.{arith}
+use lib.ListN.{length}
+use Rattle.periods.specs.Period.{repetition?, held_period}
+use Rattle.periods.specs.Width.{word_of}
+use Rattle.factors.specs.Factorization.{choice_of}
+use Rattle.factors.specs.Table.{rows, started}
+use Rattle.factors.proofs.Lent.{lent}
+use Rattle.factorizer.specs.Piece.{piece?}
+use Rattle.factorizer.specs.Window.{window_of, Windowed, RestKept}
+use Rattle.factorizer.proofs.FillLaws.{second, zeros, begun_kept}
+use Rattle.factorizer.proofs.Windows.{windowed_starts}
+use Rattle.factorizer.proofs.Lengths.{sized_begun, sized_filled}
+use Rattle.factorizer.proofs.Passing.{lengthens}
+use Rattle.factorizer.proofs.inner.fill.Goals as goal
+
+-- the table that the loop begins with keeps what follows the four rows, and so do its later tables
+begun_rest : (w : List ℕ) (n : ℕ) → n ≡ length w → (t s z : List ℕ) → rows * (length w + 1) ≤ length t → s ≡ started n t → z ≡ zeros s (n + 1) (second n)
+    → RestKept (length w) t (lent s (n + 1) (second n) z)
+begun_rest w n is t s z room e f = subst (RestKept (length w) t) (sym (sized_begun w n is t s z e f)) (begun_kept w t room)
+
+rest_after : (n : ℕ) (t x y : List ℕ) → RestKept n t x → RestKept n x y → RestKept n t y
+rest_after n t x y a b = (b.0 ∙ a.0, b.1 ∙ a.1)
+
+pub loop-j-init : goal.loop-j-init
+loop-j-init c =
+    let g = c.args in
+    let w = word_of g.wide g.bytes.now g.codes.now in (
+      omega arith,
+      subst (Windowed (choice_of g.choice) (piece? (repetition? held_period g.turns) w) w (window_of g.turns) 0 0 0)
+          (sym (sized_begun w c.length-n.result c.length-n.ensures g.work.now _ _ c.start.ensures c.clear.ensures))
+          (windowed_starts (choice_of g.choice) (piece? (repetition? held_period g.turns) w) w g.work.now (window_of g.turns) (omega arith)),
+      (refl, refl),
+    )
+
+pub loop-j-preserved : goal.loop-j-preserved
+loop-j-preserved c =
+    let g = c.args in
+    let w = word_of g.wide g.bytes.now g.codes.now in
+    let l = c.loop-j in
+    let v = c.visit-unit in
+    let k = begun_rest w c.length-n.result c.length-n.ensures g.work.now _ _ (omega arith) c.start.ensures c.clear.ensures in
+    let p = lengthens (choice_of g.choice) g.turns c.requires.1 w l.j v.result _ (omega (arith, v.ensures.rest_kept.0, l.invariant.2.0, k.0)) _ v.ensures.windowed_2 c.lengthen.ensures in
+    (omega arith, p.0, (p.1.0 ∙ v.ensures.rest_kept.0 ∙ l.invariant.2.0, p.1.1 ∙ v.ensures.rest_kept.1 ∙ l.invariant.2.1))
+
+pub returns : goal.returns
+returns c =
+    let g = c.args in
+    let w = word_of g.wide g.bytes.now g.codes.now in
+    let l = c.loop-j in
+    let k = rest_after (length w) g.work.now _ l.work (begun_rest w c.length-n.result c.length-n.ensures g.work.now _ _ (omega arith) c.start.ensures c.clear.ensures) l.invariant.2 in
+    sized_filled w c.length-n.result c.length-n.ensures (choice_of g.choice) (piece? (repetition? held_period g.turns) w) g.work.now l.work _ (omega arith) k
+    (λ m h. l.invariant.1.upto m h (omega (arith, c.length-n.ensures))) c.clear-2.ensures
