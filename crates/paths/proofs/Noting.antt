@@ -18,9 +18,9 @@ use Rattle.periods.specs.Period.{part, smallest_period, held_period, unit_memory
 use Rattle.periods.proofs.Claims.{part-smallest}
 use Rattle.runs.specs.declared.Record.{Record}
 use Rattle.runs.specs.declared.Listing.TheVariants.{Keys}
-use Rattle.runs.specs.Run.{Entry, Sorted}
+use Rattle.runs.specs.Run.{Entry}
 use Rattle.runs.specs.Table.{runs_of}
-use Rattle.runs.specs.Listing.{key_step, key_of, flat_by}
+use Rattle.runs.specs.Listing.{key_step, flat_by}
 use Rattle.runs.proofs.Listings.{held_or_none, key_first, key_unit, key_at, length-flat_by}
 use Rattle.runs.proofs.Entries.{sorted_first, entry_left, entry_right, entry_one_row, entry_bounds}
 use Rattle.runs.proofs.Listed.{runs_listed}

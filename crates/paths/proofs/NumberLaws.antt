@@ -1,6 +1,6 @@
 -- What the loops of path of a split go by: the test of a piece by its unit; what the loops over the blocks have written, and what is there still. By the laws of
 -- lists. Assumes nothing.
-use mathlib.Core.Path.{◌≡◌, refl, sym, ap, ap₂, ◌∙◌}
+use mathlib.Core.Path.{◌≡◌, refl, ap, ap₂, ◌∙◌}
 use mathlib.Core.Bool.{Bool, ◌&&◌}
 use mathlib.Core.List.{List, ◌++◌}
 use Prim.Native.Nat.{ℕ, suc, ◌+◌, ◌-◌, ◌*◌, ◌≤◌, ◌<◌}
@@ -10,13 +10,11 @@ use native.Mathlib.Numerals.{add-one}
 use borrow.Author.Tests.{le-leb}
 use lib.Dec.{leb}
 use lib.ListN.{length, get_or, set, take, drop, length-append, length-take, length-drop}
-use lib.Seq.{take_all, length-take-le, take_at, drop_at, drop-cons, get_or-take, get_or_at, paste-suc}
-use Rattle.periods.specs.Period.{part, smallest_period, held_period}
+use lib.Seq.{take_all, length-take-le, drop-cons, get_or_at, paste-suc}
+use Rattle.periods.specs.Period.{part, smallest_period}
 use Rattle.periods.proofs.InPlace.{placed_part}
 use Rattle.periods.proofs.Claims.{repetition_by_unit}
-use Rattle.factors.proofs.BlockByBlock.{of_blocks-length, Taken, next_number}
-use Rattle.repetitions.specs.Block.{Block, block?}
-use Rattle.paths.specs.Calls.{run_numbers}
+use Rattle.repetitions.specs.Block.{block?}
 
 -- ---- the test of a piece, by its unit u
 

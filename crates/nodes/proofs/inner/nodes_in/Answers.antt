@@ -28,14 +28,14 @@ room : (w t u : List ℕ) (count : ℕ) → length w ≤ limit → length w ≤ 
     → (count ≤ length u) × (count ≤ limit)
 room w t u count a h e f = (omega (arith, table_at_most w), omega (arith, table_at_most w))
 
-module _ (w marks u t left : List ℕ) (edition turns x count found : ℕ) (tested : Tested w edition x) (many : length w ≤ length marks) (turns-are : turns ≡ turns_of edition)
-    (count-is : count ≡ length (runs_of w)) (marks-are : u ≡ listed (Marks turns x) w marks) (found-is : found ≡ length (marked 0 (take count u))) (kept : left ≡ t) where
+module _ (w marks u t left : List ℕ) (edition turns x count found : ℕ) (tested : Tested w edition x) (many : length w ≤ length marks) (turns_are : turns ≡ turns_of edition)
+    (count_is : count ≡ length (runs_of w)) (marks_are : u ≡ listed (Marks turns x) w marks) (found_is : found ≡ length (marked 0 (take count u))) (kept : left ≡ t) where
   -- what is picked among the marks
   picked : marked 0 (take count u) ≡ nodes_at held_period (turns_of edition) w x
-  picked = marks_picked w marks u turns x count many count-is marks-are edition turns-are
+  picked = marks_picked w marks u turns x count many count_is marks_are edition turns_are
 
   counted : found ≡ length (nodes_at held_period (turns_of edition) w x)
-  counted = found-is ∙ ap length picked
+  counted = found_is ∙ ap length picked
 
   few : found ≤ limit
   few = let h : length w ≤ limit = tested.0 in omega (arith, counted, nodes_at-most (turns_of edition) w x, table_at_most w)

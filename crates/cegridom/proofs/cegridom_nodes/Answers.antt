@@ -1,0 +1,6 @@
+-- `cegridom::cegridom_nodes` meets its contract: what the call promises of its answer, and what `hand_over` takes from the answer. Assumes nothing.
+use Rattle.std.proofs.Common.{sym}
+use Rattle.cegridom.proofs.cegridom_nodes.Goals as goal
+
+pub returns-clause-meaning : goal.returns-clause-meaning
+returns-clause-meaning c = rw (sym c.nodes-answer.ensures.answer) c.nodes-answer.ensures.meaning

@@ -1,0 +1,6 @@
+-- `cegridom::cegridom_part` meets its contract: what the call promises of its answer, and what `hand_over_part` takes from the answer. Assumes nothing.
+use Rattle.std.proofs.Common.{sym}
+use Rattle.cegridom.proofs.cegridom_part.Goals as goal
+
+pub returns-clause-meaning : goal.returns-clause-meaning
+returns-clause-meaning c = rw (sym c.part-answer.ensures.answer) c.part-answer.ensures.meaning
