@@ -9,10 +9,14 @@ archive = target/staticlib/libcegridom.a
 to = $(DESTDIR)$(PREFIX)
 
 lib:
-	rt staticlib cegridom
+	cd crates/cegridom && rt lib
+	mkdir -p target/staticlib
+	cp crates/cegridom/out/libcegridom.a $(archive)
 
 bench:
-	rt check bench
+	cd crates/bench && rt run <stdin >/dev/null
+	mkdir -p target/bin
+	cp crates/bench/out/bench target/bin/bench
 
 test:
 	tests/run
@@ -32,4 +36,4 @@ uninstall:
 	rm -f "$(to)/include/cegridom.h" "$(to)/lib/libcegridom.a" "$(to)/lib/pkgconfig/cegridom.pc"
 
 clean:
-	rm -rf target rust/target
+	rm -rf target rust/target crates/*/out

@@ -1,7 +1,7 @@
 /*
  * Reads a lay-up, one line from standard input, and prints its fewest split in edition 1: the size
  * and then the end of each block, a line each. At the top of the repository, after
- * `rt staticlib cegridom`:
+ * `make lib`:
  *
  *   cc -I include -o target/fewest examples/fewest.c target/staticlib/libcegridom.a
  *

@@ -38,7 +38,7 @@
  * take as much or less. They are for a warm call: where memset is bound lazily, the first call of a
  * process may take some 3 KiB more, since the dynamic linker looks it up on the caller's stack.
  *
- * The functions are those of libcegridom.a, for x86-64 Linux only, which `rt staticlib cegridom`
+ * The functions are those of libcegridom.a, for x86-64 Linux only, which `make lib`
  * proves and writes to target/staticlib; it needs nothing but the C library's memset.
  * Nothing checks these declarations against the source of the library: tests/c compares what every
  * call gives.

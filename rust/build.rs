@@ -12,7 +12,7 @@ fn main() {
     if !archive.is_file() {
         eprintln!(
             "target/staticlib/libcegridom.a is missing: \
-             run `rt staticlib cegridom` at the top of the repository first"
+             run `make lib` at the top of the repository first"
         );
         exit(1);
     }

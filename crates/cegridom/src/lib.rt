@@ -2,7 +2,7 @@
 // else the refusal's number; the index of 3 and 4 and the answer's values come back through
 // references, which hold 0 where the outcome has no such number. Each export is the call that it
 // names, so it costs what that call costs. The contracts are the calls' own, stated of the outcome,
-// which the numbers handed over determine: handed-over-determines in proofs/Claims.antt, and
+// which the numbers handed over determine: handed_over_determines in proofs/Claims.antt, and
 // proofs/Values.antt for each call. First block alone has no outcome: its two numbers say which word
 // it is a part of, and how long.
 #![tactic(auto)]

@@ -14,7 +14,7 @@ pub const PROGRAM_LIMIT: usize = 1024;
 // The edition whose splits it prints.
 pub const EDITION: u32 = periods::FIRST_EDITION;
 
-// No report has more bytes: longestText of specs/Records.antt.
+// No report has more bytes: longest_text of specs/Records.antt.
 pub const LONGEST_REPORT: usize = 145462;
 
 // What is printed of a word that is too long.
