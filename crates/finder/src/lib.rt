@@ -1,5 +1,4 @@
-// The finder over a lent slice of run records. The borrow checker covers no function that has a
-// slice of structs, so find_run and inner::find_in are proved by hand; everything else here is covered.
+// The finder over a lent slice of run records.
 #![tactic(auto)]
 
 ghost use Rattle.std.specs.Prelude.{◌≡◌};
