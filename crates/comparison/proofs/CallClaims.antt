@@ -30,8 +30,8 @@ use Rattle.comparison.specs.Calls.{longer, chosen, tested, compared, which_view,
 
 -- ---- the longer of two words
 
-pub longer-above : (m x y : ℕ) → m < max x y → (m < x) ⊎ (m < y)
-longer-above m x y h = go (dec_lt m x) (dec_lt m y)
+pub longer_above : (m x y : ℕ) → m < max x y → (m < x) ⊎ (m < y)
+longer_above m x y h = go (dec_lt m x) (dec_lt m y)
   where
     go : Dec (m < x) → Dec (m < y) → (m < x) ⊎ (m < y)
     go (yes a) d = inl a
@@ -186,7 +186,7 @@ module _ (a b : List ℕ) (edition : ℕ) (t : List ℕ) where
       right h = omega (arith, le-max_right (length a) (length b))
 
       go : Dec (limit < longer a b) → Dec (Edition edition) → Dec (length t < rows * (longer a b + 1)) → Meant (compared a b edition (length t)) (which_work a b edition t)
-      go (yes h) i d = by (promised_long a b edition t h) record { which = too_long (longer-above limit (length a) (length b) h) refl refl; found = tt }
+      go (yes h) i d = by (promised_long a b edition t h) record { which = too_long (longer_above limit (length a) (length b) h) refl refl; found = tt }
       go (no h) (no i) d = by (promised_bad_edition a b edition t (omega arith) i) record { which = bad_edition (left (omega arith)) (right (omega arith)) i refl refl; found = tt }
       go (no h) (yes i) (yes d) =
           by (promised_short a b edition t (omega arith) i d) record { which = short_table (left (omega arith)) (right (omega arith)) i d refl refl; found = tt }

@@ -1,6 +1,6 @@
 -- What is read off a filled table is the size of the smallest factorization and the end of its first block (given_size, given_end), and of two sizes read as
 -- numbers the smaller is that of the word to wind first, since none is the greatest (chosen_by-sizes). By cases on what is known of the words' last
--- boundaries. And what follows the places of the longer word is left alone (both-cleared). Assumes nothing.
+-- boundaries. And what follows the places of the longer word is left alone (both_cleared). Assumes nothing.
 use mathlib.Core.Path.{◌≡◌, refl, sym, ap, ◌∙◌}
 use mathlib.Core.Bool.{Bool, cond}
 use mathlib.Core.List.{List, ◌++◌}
@@ -79,16 +79,16 @@ module _ (k : ℕ) (a b t u : List ℕ) (room : rows * (longer a b + 1) ≤ leng
     both_long : length v ≡ length t
     both_long = ap length second ∙ filled-long smallest (block? held_period k b) (length b) u (omega (arith, right, first_long)) ∙ first_long
 
-    both-kept : drop (rows * (longer a b + 1)) v ≡ drop (rows * (longer a b + 1)) t
-    both-kept =
+    both_kept : drop (rows * (longer a b + 1)) v ≡ drop (rows * (longer a b + 1)) t
+    both_kept =
         ap (drop (rows * (longer a b + 1))) second
         ∙ filled-past smallest (block? held_period k b) (length b) u (rows * (longer a b + 1)) (omega (arith, right))
         ∙ ap (drop (rows * (longer a b + 1))) first
         ∙ filled-past smallest (block? held_period k a) (length a) t (rows * (longer a b + 1)) (omega (arith, left))
 
     -- those places cleared to z
-    pub both-cleared : (places : ℕ) (z : List ℕ) → places ≡ rows * (longer a b + 1) → z ≡ zeros v 0 places
+    pub both_cleared : (places : ℕ) (z : List ℕ) → places ≡ rows * (longer a b + 1) → z ≡ zeros v 0 places
         → z ++ drop (places - 0) v ≡ replicate (rows * (longer a b + 1)) 0 ++ drop (rows * (longer a b + 1)) t
-    both-cleared places z e f =
+    both_cleared places z e f =
         let l : length (take (rows * (longer a b + 1)) v) ≡ rows * (longer a b + 1) = length-take (rows * (longer a b + 1)) v ∙ omega (arith, both_long) in
-        rw (f, sub-zero places, e, l) (ap (λ (x : List ℕ). replicate (rows * (longer a b + 1)) 0 ++ x) both-kept)
+        rw (f, sub-zero places, e, l) (ap (λ (x : List ℕ). replicate (rows * (longer a b + 1)) 0 ++ x) both_kept)

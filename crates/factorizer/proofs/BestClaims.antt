@@ -151,8 +151,8 @@ module _ (P : List ℕ → Type 0) (p : List ℕ → Bool) (D : Decides P p) (w 
       first : length S ≡ suc (length w)
       first = length-sizes c (piece? p w) (length w)
 
-      zero-long : length Z ≡ 3 * (length w + 1)
-      zero-long = length-replicate {A = ℕ} (3 * (length w + 1)) 0
+      zero_long : length Z ≡ 3 * (length w + 1)
+      zero_long = length-replicate {A = ℕ} (3 * (length w + 1)) 0
 
       at : (m : ℕ) → m ≤ length w → get_or (S ++ (Z ++ R)) m 0 ≡ size_in (cell c (piece? p w) m)
       at m h = get_or-append S (Z ++ R) 0 m (omega (arith, first)) ∙ sizes-at c (piece? p w) (length w) m h
@@ -162,16 +162,16 @@ module _ (P : List ℕ → Type 0) (p : List ℕ → Bool) (D : Decides P p) (w 
           let f : i ≡ length S + (i - suc (length w)) = omega (arith, first) in
           ap (λ (x : ℕ). get_or (S ++ (Z ++ R)) x 0) f
           ∙ get_or-append-add S (Z ++ R) (i - suc (length w)) 0
-          ∙ get_or-append Z R 0 (i - suc (length w)) (omega (arith, zero-long))
+          ∙ get_or-append Z R 0 (i - suc (length w)) (omega (arith, zero_long))
           ∙ get_or-replicate (3 * (length w + 1)) (i - suc (length w)) 0 0 (omega arith)
 
       kept : drop (rows * (length w + 1)) (S ++ (Z ++ R)) ≡ R
       kept =
           let f : rows * (length w + 1) ≡ length S + 3 * (length w + 1) = omega (arith, first) in
-          ap (λ (x : ℕ). drop x (S ++ (Z ++ R))) f ∙ drop-append-add S (Z ++ R) (3 * (length w + 1)) ∙ drop_at Z R (3 * (length w + 1)) zero-long
+          ap (λ (x : ℕ). drop x (S ++ (Z ++ R))) f ∙ drop-append-add S (Z ++ R) (3 * (length w + 1)) ∙ drop_at Z R (3 * (length w + 1)) zero_long
 
       long : length (S ++ (Z ++ R)) ≡ length t
-      long = omega (arith, length-append S (Z ++ R), first, length-append Z R, zero-long, length-drop (rows * (length w + 1)) t)
+      long = omega (arith, length-append S (Z ++ R), first, length-append Z R, zero_long, length-drop (rows * (length w + 1)) t)
 
   -- CLAIM: the best split into such pieces says all of demand 3
   pub chosen_means : length w < none → Chosen P w choice e t (chosen_outcome p w choice e t) (chosen_ends p w choice e t) (chosen_work p w choice t)

@@ -51,18 +51,18 @@ module _ (c : Choice) (k : ℕ) (turns : Turns k) (w : List ℕ) (short : length
   pub visit_skips : get_or t j 0 ≡ none → Windowed c b w window (j + 1) j u t
   visit_skips e = rw (add-one j) record {
     upto = S.upto;
-    near = λ m h l x. subst (λ (v : Cell). Holds t m (length w + 1 + m) v) (sym (scan-unreachable c b (cell c b) m j none-there)) (S.near m h l x);
+    near = λ m h l x. subst (λ (v : Cell). Holds t m (length w + 1 + m) v) (sym (scan-unreachable c b (cell c b) m j none_there)) (S.near m h l x);
     far = S.far;
     fits = S.fits;
     known = λ h. go (S.known h);
   }
     where
-      none-there : cell c b j ≡ unreachable
-      none-there = holds_none t j (length w + 1 + j) (cell c b j) (S.upto j (omega arith) (omega arith)) e
+      none_there : cell c b j ≡ unreachable
+      none_there = holds_none t j (length w + 1 + j) (cell c b j) (S.upto j (omega arith) (omega arith)) e
 
       go : Held u ⊎ None j → Held u ⊎ None (suc j)
       go (inl U) = inl U
-      go (inr none) = inr (one_more (λ r. absurd (r none-there)) none)
+      go (inr none) = inr (one_more (λ r. absurd (r none_there)) none)
 
   -- a boundary that is reached
   module _ (room : rows * (length w + 1) ≤ length t) (ne : get_or t j 0 ≡ none → ⊥) where
@@ -137,8 +137,8 @@ module _ (c : Choice) (k : ℕ) (turns : Turns k) (w : List ℕ) (short : length
           (part-smallest w j (j + window) (omega arith) (omega (arith, some_window)))
 
       -- memory does not hold the unit: then it holds no period of the window, and no block reaches the end
-      none-ends : unit_memory < unit_at (length w) after (len - 1) → None (suc j)
-      none-ends above = one_more (λ r. window_no_block k w j (λ p P. omega (arith, unit_smallest.least p P))) (go (S.known whole))
+      none_ends : unit_memory < unit_at (length w) after (len - 1) → None (suc j)
+      none_ends above = one_more (λ r. window_no_block k w j (λ p P. omega (arith, unit_smallest.least p P))) (go (S.known whole))
         where
           go : Held u ⊎ None j → None j
           go (inl U) = absurd (omega (arith, U.0, unit_smallest.least u (part-period_in w j (j + window) u (omega arith) U.1)))
@@ -146,7 +146,7 @@ module _ (c : Choice) (k : ℕ) (turns : Turns k) (w : List ℕ) (short : length
 
       unit_known : Dec (unit_at (length w) after (len - 1) ≤ unit_memory) → Held (unit_at (length w) after (len - 1)) ⊎ None (suc j)
       unit_known (yes held) = inl (held, part-period_out w j (j + window) (unit_at (length w) after (len - 1)) (omega arith) unit_smallest.period)
-      unit_known (no above) = inr (none-ends (omega arith))
+      unit_known (no above) = inr (none_ends (omega arith))
 
     pub visit_offers : Windowed c b w window (j + 1) j (unit_at (length w) after (len - 1)) after
     visit_offers = rw (add-one j) record {

@@ -20,8 +20,8 @@ pub record Taken (B : ℕ → ℕ → Type 0) (es : List ℕ) (m k i : ℕ) : Ty
   pub chain : Chain B i (drop k es) m
   pub left : (number : ℕ → ℕ → ℕ) → drop k (of_blocks number 0 es) ≡ of_blocks number i (drop k es)
 
-pub none-taken : {B : ℕ → ℕ → Type 0} {es : List ℕ} {m : ℕ} → Chain B 0 es m → Taken B es m 0 0
-none-taken h = record { within = omega arith; chain = h; left = λ number. refl }
+pub none_taken : {B : ℕ → ℕ → Type 0} {es : List ℕ} {m : ℕ} → Chain B 0 es m → Taken B es m 0 0
+none_taken h = record { within = omega arith; chain = h; left = λ number. refl }
 
 module _ {B : ℕ → ℕ → Type 0} {es : List ℕ} {m k i : ℕ} (P : Taken B es m k i) (l : k < length es) where
   next : B i (get_or es k 0) × Chain B (get_or es k 0) (drop (suc k) es) m

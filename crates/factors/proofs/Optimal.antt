@@ -45,13 +45,13 @@ as_good_pred : (c : Choice) (s t : ℕ) → AsGood c (suc s) (suc t) → AsGood 
 as_good_pred smallest s t x = omega arith
 as_good_pred largest s t x = omega arith
 
-pub better-true : (c : Choice) (s t : ℕ) → better c s t ≡ true → AsGood c s t × (s ≢ t)
-better-true smallest s t e = let h = ltb-true s t e in (omega arith, omega arith)
-better-true largest s t e = let h = ltb-true t s e in (omega arith, omega arith)
+pub better_true : (c : Choice) (s t : ℕ) → better c s t ≡ true → AsGood c s t × (s ≢ t)
+better_true smallest s t e = let h = ltb-true s t e in (omega arith, omega arith)
+better_true largest s t e = let h = ltb-true t s e in (omega arith, omega arith)
 
-pub better-false : (c : Choice) (s t : ℕ) → better c s t ≡ false → AsGood c t s
-better-false smallest s t e = ltb-false s t e
-better-false largest s t e = ltb-false t s e
+pub better_false : (c : Choice) (s t : ℕ) → better c s t ≡ false → AsGood c t s
+better_false smallest s t e = ltb-false s t e
+better_false largest s t e = ltb-false t s e
 
 -- ---- the tie
 
@@ -83,8 +83,8 @@ best_unique c B m s t x y X Y = (same, pick (X.wins y Y.factorization (Y.sized �
 
 module _ (B : ℕ → ℕ → Type 0) where
   -- of two factorizations with one block more up to m, the one with the lower previous boundary has the longer last block
-  longer-last : (x y : List ℕ) (m p j : ℕ) → Factorization B p x → Factorization B j y → p < j → j < m → LongerFromEnd (x ++ m ∷ []) (y ++ m ∷ [])
-  longer-last x y m p j X Y l u =
+  longer_last : (x y : List ℕ) (m p j : ℕ) → Factorization B p x → Factorization B j y → p < j → j < m → LongerFromEnd (x ++ m ∷ []) (y ++ m ∷ [])
+  longer_last x y m p j X Y l u =
       subst₂ FirstGreater (sym (lengths_back B x p m X)) (sym (lengths_back B y j m Y)) (inl (omega arith))
 
   -- with one previous boundary the tie goes by the blocks before
@@ -101,7 +101,7 @@ module _ (B : ℕ → ℕ → Type 0) where
       pick : Dec (j ≡ p) → Dec (j < p) → Wins (x ++ m ∷ []) (y ++ m ∷ [])
       pick (yes z) d = let Z : Factorization B p y = subst (λ (n : ℕ). Factorization B n y) z Y in wins_snoc x y m p X Z (wins y Z e)
       pick (no z) (yes v) = absurd (lowest v)
-      pick (no z) (no v) = inr (longer-last x y m p j X Y (omega arith) below)
+      pick (no z) (no v) = inr (longer_last x y m p j X Y (omega arith) below)
 
 -- ---- cells that satisfy the recurrence
 
@@ -295,17 +295,17 @@ module _ (c : Choice) (b : ℕ → ℕ → Bool) where
         good j t r (inr l) y z =
             subst (λ (n : ℕ). AsGood c (suc s) (suc n)) (reached_same (table k) s q t r e (subst (λ (i : ℕ). table i ≡ reached t r) l z)).0 (as_good_refl c (suc s))
 
-    none-keep : (k : ℕ) → Says table m k unreachable → (Test k m → table k ≡ unreachable) → Says table m (suc k) unreachable
-    none-keep k S h j l = go (below_suc l)
+    none_keep : (k : ℕ) → Says table m k unreachable → (Test k m → table k ≡ unreachable) → Says table m (suc k) unreachable
+    none_keep k S h j l = go (below_suc l)
       where
         go : (j < k) ⊎ (j ≡ k) → Test j m → table j ≡ unreachable
         go (inl x) = S j x
         go (inr x) = subst (λ (i : ℕ). Test i m → table i ≡ unreachable) (sym x) h
 
     offer-says : (k : ℕ) (known : Cell) → Says table m k known → (t : Bool) → b k m ≡ t → (v : Cell) → table k ≡ v → Says table m (suc k) (offer c k known t v)
-    offer-says k unreachable S false e v z = none-keep k S (λ x. absurd (subst T e x))
+    offer-says k unreachable S false e v z = none_keep k S (λ x. absurd (subst T e x))
     offer-says k (reached s₀ q₀) S false e v z = step-keep s₀ q₀ k S (λ t r x. absurd (subst T e x))
-    offer-says k unreachable S true e unreachable z = none-keep k S (λ x. z)
+    offer-says k unreachable S true e unreachable z = none_keep k S (λ x. z)
     offer-says k (reached s₀ q₀) S true e unreachable z = step-keep s₀ q₀ k S (λ t r x y. absurd (unreachable_reached (table k) t r z y))
     offer-says k unreachable S true e (reached s q) z =
         step-new s q k (subst T (sym e) tt) z (λ j t r l x y. absurd (unreachable_reached (table j) t r (S j l x) y))
@@ -313,13 +313,13 @@ module _ (c : Choice) (b : ℕ → ℕ → Bool) where
       where
         go : (u : Bool) → better c (suc s) s₀ ≡ u → Says table m (suc k) (cond u (reached (suc s) k) (reached s₀ q₀))
         go true w =
-            let v = better-true c (suc s) s₀ w in
+            let v = better_true c (suc s) s₀ w in
             step-new s q k (subst T (sym e) tt) z (λ j t r l x y. (
               as_good_trans c (suc s) s₀ (suc t) v.0 (S.good j t r l x y),
               λ a. v.1 (as_good_antisym c (suc s) s₀ v.0 (subst (λ (n : ℕ). AsGood c s₀ n) (sym a) (S.good j t r l x y))),
             ))
         go false w =
-            step-keep s₀ q₀ k S (λ t r x y. subst (λ (n : ℕ). AsGood c s₀ (suc n)) (reached_same (table k) s q t r z y).0 (better-false c (suc s) s₀ w))
+            step-keep s₀ q₀ k S (λ t r x y. subst (λ (n : ℕ). AsGood c s₀ (suc n)) (reached_same (table k) s q t r z y).0 (better_false c (suc s) s₀ w))
 
     pub scan-says : (k : ℕ) → Says table m k (scan c b table m k)
     scan-says zero = λ j l. absurd (omega arith)

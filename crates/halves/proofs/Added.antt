@@ -27,19 +27,19 @@ root_small w a p h S =
     let U = part-smallest_in w a (a + 2 * p) p h S in
     omega (arith, (root_computed w a (a + 2 * p) p U (omega arith)).to, U.period.positive)
 
-pub new-run : (w : List ℕ) (a b p : ℕ) (ends : List ℕ) → New w a b p ends → RunIn (symbol w) (length w) a b p
-new-run w a b p ends N = run_tested w a b p N.within N.unit (T_true _ N.test)
+pub new_run : (w : List ℕ) (a b p : ℕ) (ends : List ℕ) → New w a b p ends → RunIn (symbol w) (length w) a b p
+new_run w a b p ends N = run_tested w a b p N.within N.unit (T_true _ N.test)
 
 -- its start is a boundary before the word's end
-pub new-start : (w : List ℕ) (a b p : ℕ) (ends : List ℕ) → New w a b p ends → (a < b) × (a < length w)
-new-start w a b p ends N =
-    let R = new-run w a b p ends N in
+pub new_start : (w : List ℕ) (a b p : ℕ) (ends : List ℕ) → New w a b p ends → (a < b) × (a < length w)
+new_start w a b p ends N =
+    let R = new_run w a b p ends N in
     (omega (arith, R.twice, R.smallest.period.positive), omega (arith, R.twice, R.smallest.period.positive, N.within))
 
 -- the number of the next record stays small
 pub next_small : (w s : List ℕ) (a b p : ℕ) → Roomy w s → New w a b p (ends_row w s) → get_or s (3 * (length w + 1) + a) 0 + 1 < 4294967296
 next_small w s a b p R N =
-    let l = (new-start w a b p (ends_row w s) N).1 in
+    let l = (new_start w a b p (ends_row w s) N).1 in
     omega (arith, R.1.small a l, row_read (length w) s (3 * (length w + 1)) a (omega arith), N.later, N.within)
 
 module _ (w s table : List ℕ) (a b p : ℕ) (F : Scratch w s) (N : New w a b p (ends_row w s)) where
@@ -57,7 +57,7 @@ module _ (w s table : List ℕ) (a b p : ℕ) (F : Scratch w s) (N : New w a b p
   left = set (set s end b) next (get_or s next 0 + 1)
 
   inside : (a < b) × (a < length w)
-  inside = new-start w a b p (ends_row w s) N
+  inside = new_start w a b p (ends_row w s) N
 
   ends_are : ends_row w left ≡ set (ends_row w s) a b
   ends_are =

@@ -44,8 +44,8 @@ module _ (w s x : List ℕ) (F : Scratch w s) (zx : x ≡ replicate (length (tak
   x_long : length x ≡ length w + 1
   x_long = cleared_long w s (2 * (length w + 1)) (3 * (length w + 1)) (omega arith) (omega arith) x zx
 
-  none-long : length none ≡ length s
-  none-long = row_lent_long (length w) s (2 * (length w + 1)) (3 * (length w + 1)) x (omega arith) (omega arith) x_long
+  none_long : length none ≡ length s
+  none_long = row_lent_long (length w) s (2 * (length w + 1)) (3 * (length w + 1)) x (omega arith) (omega arith) x_long
 
   none_found : Zeros (ends_row w none)
   none_found = cleared_zeros w s (2 * (length w + 1)) (3 * (length w + 1)) (omega arith) (omega arith) x zx
@@ -59,7 +59,7 @@ module _ (w s x : List ℕ) (F : Scratch w s) (zx : x ≡ replicate (length (tak
     starts_stay = subst (Starts w) (sym next_stays) S
 
     pub place_roomy : Roomy w none
-    place_roomy = ((F.0, omega (arith, none-long, F.1)), room_starts w (ends_row w none) (next_row w none) F.0 starts_stay)
+    place_roomy = ((F.0, omega (arith, none_long, F.1)), room_starts w (ends_row w none) (next_row w none) F.0 starts_stay)
 
     pub place_is : (f : Listing) (t s' t' : List ℕ) → stride_of f * length (runs_of w) ≤ length t → Advances f w none t s' t' → Solved w 0 (length w) (ends_row w s') → t' ≡ sets t 0 (flat_by f (runs_of w))
     place_is f t s' t' room K D = table_is f w (ends_row w none) (next_row w none) t (ends_row w s') (next_row w s') t' none_found starts_stay room K D
@@ -70,17 +70,17 @@ module _ (w s x : List ℕ) (F : Scratch w s) (zx : x ≡ replicate (length (tak
     clean = lent none (3 * (length w + 1)) (4 * (length w + 1)) y
 
     y_long : length y ≡ length w + 1
-    y_long = cleared_long w none (3 * (length w + 1)) (4 * (length w + 1)) (omega arith) (omega (arith, none-long, F.1)) y zy
+    y_long = cleared_long w none (3 * (length w + 1)) (4 * (length w + 1)) (omega arith) (omega (arith, none_long, F.1)) y zy
 
     clean_long : length clean ≡ length s
-    clean_long = row_lent_long (length w) none (3 * (length w + 1)) (4 * (length w + 1)) y (omega arith) (omega (arith, none-long, F.1)) y_long ∙ none-long
+    clean_long = row_lent_long (length w) none (3 * (length w + 1)) (4 * (length w + 1)) y (omega arith) (omega (arith, none_long, F.1)) y_long ∙ none_long
 
     clean_next : Zeros (next_row w clean)
-    clean_next = cleared_zeros w none (3 * (length w + 1)) (4 * (length w + 1)) (omega arith) (omega (arith, none-long, F.1)) y zy
+    clean_next = cleared_zeros w none (3 * (length w + 1)) (4 * (length w + 1)) (omega arith) (omega (arith, none_long, F.1)) y zy
 
     clean_ends : Zeros (ends_row w clean)
     clean_ends =
-        subst Zeros (sym (row_lent_before (length w) none (3 * (length w + 1)) (4 * (length w + 1)) y (omega arith) (omega (arith, none-long, F.1)) y_long (2 * (length w + 1)) (omega arith)))
+        subst Zeros (sym (row_lent_before (length w) none (3 * (length w + 1)) (4 * (length w + 1)) y (omega arith) (omega (arith, none_long, F.1)) y_long (2 * (length w + 1)) (omega arith)))
         none_found
 
     pub count_roomy : Roomy w clean

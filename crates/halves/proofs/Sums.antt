@@ -24,12 +24,12 @@ pub record Zeros (s : List ℕ) : Type 0 where
 
 -- a row that was cleared
 pub zeros_cleared : (s : List ℕ) (n : ℕ) → s ≡ replicate n 0 → Zeros s
-zeros_cleared s n e = record { at = λ a. ap (λ (x : List ℕ). get_or x a 0) e ∙ zero-at n a }
+zeros_cleared s n e = record { at = λ a. ap (λ (x : List ℕ). get_or x a 0) e ∙ zero_at n a }
   where
-    zero-at : (n a : ℕ) → get_or (replicate {A = ℕ} n 0) a 0 ≡ 0
-    zero-at zero a = refl
-    zero-at (suc n) zero = refl
-    zero-at (suc n) (suc a) = zero-at n a
+    zero_at : (n a : ℕ) → get_or (replicate {A = ℕ} n 0) a 0 ≡ 0
+    zero_at zero a = refl
+    zero_at (suc n) zero = refl
+    zero_at (suc n) (suc a) = zero_at n a
 
 -- ---- sums
 

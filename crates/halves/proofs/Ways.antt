@@ -34,13 +34,13 @@ not-false false e = absurd (no_clash e)
 differ : (x y : ℕ) → not (eqb x y) ≡ true → x ≢ y
 differ x y e z = T_not (eqb x y) (subst T (sym e) tt) (subst (λ (k : ℕ). T (eqb x k)) z (eqb_refl x))
 
-pub left-test : (w : List ℕ) (a p : ℕ) → (a ≡ 0 → ⊥) → not (eqb (get_or w (a - 1) 0) (get_or w (a - 1 + p) 0)) ≡ left? w a p
-left-test w zero p h = absurd (h refl)
-left-test w (suc a) p h = let e : suc a - 1 ≡ a = omega arith in rw e refl
+pub left_test : (w : List ℕ) (a p : ℕ) → (a ≡ 0 → ⊥) → not (eqb (get_or w (a - 1) 0) (get_or w (a - 1 + p) 0)) ≡ left? w a p
+left_test w zero p h = absurd (h refl)
+left_test w (suc a) p h = let e : suc a - 1 ≡ a = omega arith in rw e refl
 
-left-true : (w : List ℕ) (a p : ℕ) → left? w a p ≡ true → (i : ℕ) → suc i ≡ a → symbol w i ≢ symbol w (i + p)
-left-true w zero p h i e = absurd (omega arith)
-left-true w (suc a) p h i e = let z : i ≡ a = omega arith in rw z (differ (symbol w a) (symbol w (a + p)) h)
+left_true : (w : List ℕ) (a p : ℕ) → left? w a p ≡ true → (i : ℕ) → suc i ≡ a → symbol w i ≢ symbol w (i + p)
+left_true w zero p h i e = absurd (omega arith)
+left_true w (suc a) p h i e = let z : i ≡ a = omega arith in rw z (differ (symbol w a) (symbol w (a + p)) h)
 
 left_false : (w : List ℕ) (a p : ℕ) → left? w a p ≡ false → ((i : ℕ) → suc i ≡ a → symbol w i ≢ symbol w (i + p)) → ⊥
 left_false w zero p h d = no_clash h
@@ -87,4 +87,4 @@ module _ (f : Listing) (w s table : List ℕ) (a b p : ℕ) (P : Periodic w a b 
 
   -- all tests passed: it is new
   pub way_new : a + 2 * p ≤ b → left? w a p ≡ true → right? w b p ≡ true → Ready w a b p (ends_row w s) → get_or s (2 * (length w + 1) + a) 0 < b → New w a b p (ends_row w s)
-  way_new h l r D e = is_new w a b p (ends_row w s) P h (left-true w a p l) (right_true w b p r) D (omega (arith, end_read))
+  way_new h l r D e = is_new w a b p (ends_row w s) P h (left_true w a p l) (right_true w b p r) D (omega (arith, end_read))

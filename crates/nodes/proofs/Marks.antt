@@ -33,9 +33,9 @@ marked_append i (m ∷ ms) ns =
     ap (λ (l : List ℕ). cond (eqb m 1) (suc i ∷ []) [] ++ l) (marked_append (suc i) ms ns ∙ ap (λ (j : ℕ). marked (suc i) ms ++ marked j ns) e)
     ∙ sym (append_assoc (cond (eqb m 1) (suc i ∷ []) []) (marked (suc i) ms) (marked (i + suc (length ms)) ns))
 
-marked-few : (i : ℕ) (ms : List ℕ) → length (marked i ms) ≤ length ms
-marked-few i [] = omega arith
-marked-few i (m ∷ ms) = go (marked-few (suc i) ms) (eqb m 1)
+marked_few : (i : ℕ) (ms : List ℕ) → length (marked i ms) ≤ length ms
+marked_few i [] = omega arith
+marked_few i (m ∷ ms) = go (marked_few (suc i) ms) (eqb m 1)
   where
     go : length (marked (suc i) ms) ≤ length ms → (u : Bool) → length (cond u (suc i ∷ []) [] ++ marked (suc i) ms) ≤ suc (length ms)
     go ih true = omega arith
@@ -43,8 +43,8 @@ marked-few i (m ∷ ms) = go (marked-few (suc i) ms) (eqb m 1)
 
 module _ (marks : List ℕ) (i : ℕ) where
   -- no more are set among the first marks than there are
-  pub marked-most : i ≤ length marks → length (marked 0 (take i marks)) ≤ i
-  marked-most h = omega (arith, marked-few 0 (take i marks), length-take-le i marks h)
+  pub marked_most : i ≤ length marks → length (marked 0 (take i marks)) ≤ i
+  marked_most h = omega (arith, marked_few 0 (take i marks), length-take-le i marks h)
 
   module _ (h : i < length marks) where
     next : marked 0 (take (i + 1) marks) ≡ marked 0 (take i marks) ++ (cond (eqb (get_or marks i 0) 1) (suc i ∷ []) [] ++ [])

@@ -15,7 +15,7 @@ use Rattle.laws.proofs.Tests.{and_left, and_right}
 use Rattle.decimals.specs.Decimal.{digits_in, digit_count, plain, digit?, digits?, value, spelled, line_end, field}
 use Rattle.decimals.proofs.Claims.{digit_low, digits-are_digits, plain_value}
 use Rattle.decimals.proofs.Fields.{at_most_at}
-use Rattle.writers.proofs.Stores.{stored, left-all, left_less, left-last}
+use Rattle.writers.proofs.Stores.{stored, left_all, left_less, left_last}
 use Rattle.page_lines.specs.Line.{widths, width_of, sum, start_of, number_columns, line_width, line_bytes, space, spaces, right_aligned, columns, hex_bytes, hex_byte, hex_digits, symbols, left_aligned, unit_column, byte_form, code_form, Fits, line, NoEnd, OneLine, greatest, LineNumbers}
 use Rattle.page_lines.specs.declared.Form.{Form}
 use Rattle.page_lines.proofs.Columns.{start_unit, right_length, line-number_short, symbols-length}
@@ -78,7 +78,7 @@ line-stored form F t u v numbers unit at s width k N e f g h w =
     let A = stored t at front u (at + start_of number_columns) (ap (λ (n : ℕ). at + n) (sym (numbers_length numbers N)), e) in
     let B = stored u (at + start_of number_columns) last v (at + line_width) (omega (arith, unit_length form F unit, start_unit), w') in
     let C = stored v (at + line_width) (line_end ∷ []) (set v (at + line_width) line_end) (at + line_bytes) (omega arith, refl) in
-    (left-last (left_less (line_end ∷ []) (left_less (last ++ (line_end ∷ [])) (left-all t at (line form numbers unit) (front ++ (last ++ (line_end ∷ []))) (line-is form numbers unit)) A) B) C).bytes
+    (left_last (left_less (line_end ∷ []) (left_less (last ++ (line_end ∷ [])) (left_all t at (line form numbers unit) (front ++ (last ++ (line_end ∷ []))) (line-is form numbers unit)) A) B) C).bytes
 
 -- ---- byte 10
 

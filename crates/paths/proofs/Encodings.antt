@@ -115,9 +115,9 @@ module _ (allowed : ℕ → Bool) (k : ℕ) (w : List ℕ) where
   goes_on t j (white i x) xs v q = let F = first_drop t xs i x v.1 in nil≢cons (sym q ∙ F.is)
 
   -- a drop at x and a flat edge on from x have different first ends
-  drop-flat : (t i x e h y : ℕ) (xs ys : List Node) → Walk allowed k w (white i x) (black e ∷ xs) (black t) → Walk allowed k w (white i x) (white h y ∷ ys) (black t)
+  drop_flat : (t i x e h y : ℕ) (xs ys : List Node) → Walk allowed k w (white i x) (black e ∷ xs) (black t) → Walk allowed k w (white i x) (white h y ∷ ys) (black t)
       → i ∷ e ∷ encoding (black e) xs ≡ encoding (white h y) ys → ⊥
-  drop-flat t i x e h y xs ys v z q =
+  drop_flat t i x e h y xs ys v z q =
       let F = first_drop t ys h y z.1 in
       let c = tail-eq_of_cons-eq (q ∙ F.is) in
       omega (arith, head-eq_of_cons-eq c, v.0.2, z.0.2.1, F.from)
@@ -173,8 +173,8 @@ module _ (allowed : ℕ → Bool) (k : ℕ) (w : List ℕ) where
         ((one_walk t xs ys).0 b (subst (λ (m : ℕ). Walk allowed k w (black m) xs (black t)) e v.1) z.1
         (subst (λ (m : ℕ). encoding (black m) xs ≡ encoding (black b) ys) e d)),
   )
-  one_walk t (black a ∷ xs) (white h y ∷ ys) = (λ j v z q. absurd v.0.2, λ i x v z q. absurd (drop-flat t i x a h y xs ys v z q))
-  one_walk t (white h y ∷ xs) (black b ∷ ys) = (λ j v z q. absurd z.0.2, λ i x v z q. absurd (drop-flat t i x b h y ys xs z v (sym q)))
+  one_walk t (black a ∷ xs) (white h y ∷ ys) = (λ j v z q. absurd v.0.2, λ i x v z q. absurd (drop_flat t i x a h y xs ys v z q))
+  one_walk t (white h y ∷ xs) (black b ∷ ys) = (λ j v z q. absurd z.0.2, λ i x v z q. absurd (drop_flat t i x b h y ys xs z v (sym q)))
   one_walk t (white h y ∷ xs) (white g u ∷ ys) = (
     (λ j v z q. let d = diagonals t j h y g u xs ys v z q in same_white t h y g u xs ys (one_walk t xs ys).1 d.0 d.1 v.1 z.1 q),
     (λ i x v z q. same_white t h y g u xs ys (one_walk t xs ys).1 (sym v.0.2.0 ∙ z.0.2.0) (v.0.2.1 ∙ sym z.0.2.1) v.1 z.1 q),

@@ -85,8 +85,8 @@ passed_entry keys k (suc c) h = go (ℕ_discrete k c) (λ z. passed_entry keys k
 -- ---- one run after the other
 
 -- in a table of zeros none is noted yet
-pub none-noted : (keys : List ℕ) (count : ℕ) (latest : List ℕ) → latest ≡ replicate 257 0 → Noted keys count 0 0 latest
-none-noted keys count latest e = record {
+pub none_noted : (keys : List ℕ) (count : ℕ) (latest : List ℕ) → latest ≡ replicate 257 0 → Noted keys count 0 0 latest
+none_noted keys count latest e = record {
   within = omega arith;
   early = λ k h. absurd (omega arith);
   places = ap length e ∙ length-replicate {A = ℕ} 257 0;

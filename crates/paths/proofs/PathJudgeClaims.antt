@@ -41,11 +41,11 @@ run_given (r ∷ []) k h = absurd (omega arith)
 run_given (r ∷ e ∷ ns) zero h = refl
 run_given (r ∷ e ∷ ns) (suc k) h = let f : suc k + suc k ≡ suc (suc (k + k)) = omega arith in rw f (run_given ns k (omega arith))
 
-pub end-given : (ns : List ℕ) (k : ℕ) → k + k + 1 < length ns → get_or (ends_of_pairs ns) k 0 ≡ get_or ns (k + k + 1) 0
-end-given [] k h = absurd (omega arith)
-end-given (r ∷ []) k h = absurd (omega arith)
-end-given (r ∷ e ∷ ns) zero h = refl
-end-given (r ∷ e ∷ ns) (suc k) h = let f : suc k + suc k + 1 ≡ suc (suc (k + k + 1)) = omega arith in rw f (end-given ns k (omega arith))
+pub end_given : (ns : List ℕ) (k : ℕ) → k + k + 1 < length ns → get_or (ends_of_pairs ns) k 0 ≡ get_or ns (k + k + 1) 0
+end_given [] k h = absurd (omega arith)
+end_given (r ∷ []) k h = absurd (omega arith)
+end_given (r ∷ e ∷ ns) zero h = refl
+end_given (r ∷ e ∷ ns) (suc k) h = let f : suc k + suc k + 1 ≡ suc (suc (k + k + 1)) = omega arith in rw f (end_given ns k (omega arith))
 
 -- ---- the test of a piece
 

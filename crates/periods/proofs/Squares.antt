@@ -130,8 +130,8 @@ module _ (s : List ℕ) where
       (agrees-complete s q (half_period q S even).same))
 
   -- what the test says of a word that is no square
-  pub not-square : (Square s → ⊥) → false ≡ square? s
-  not-square none = go (square? s) refl
+  pub not_square : (Square s → ⊥) → false ≡ square? s
+  not_square none = go (square? s) refl
     where
       go : (t : Bool) → square? s ≡ t → false ≡ t
       go true e = absurd (none (square_sound (subst T (sym e) tt)))

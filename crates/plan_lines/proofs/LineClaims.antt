@@ -241,8 +241,8 @@ module _ (long : Bool) where
         ∙ sym (append_assoc (prefix_of long) (digits e n) (comma ∷ (digits e (length ends) ++ (fields e ends ++ line_end ∷ []))))
 
     -- so does each end
-    end-cut : (k : ℕ) → k < length ends → s ≡ (head n (length ends) ++ fields e (take k ends)) ++ comma ∷ (digits e (get_or ends k 0) ++ (fields e (drop (suc k) ends) ++ line_end ∷ []))
-    end-cut k h =
+    end_cut : (k : ℕ) → k < length ends → s ≡ (head n (length ends) ++ fields e (take k ends)) ++ comma ∷ (digits e (get_or ends k 0) ++ (fields e (drop (suc k) ends) ++ line_end ∷ []))
+    end_cut k h =
         let F : List ℕ = fields e (take k ends) in
         let G : List ℕ = fields e (drop (suc k) ends) in
         let D : List ℕ = digits e (get_or ends k 0) in
@@ -263,14 +263,14 @@ module _ (long : Bool) where
     ends_stand zero h = tt
     ends_stand (suc k) h =
         and_intro (ends? e s k) (field? e s (place_of_end e k)) (ends_stand k (omega arith))
-        (shown_field e s (head n (length ends) ++ fields e (take k ends)) (get_or ends k 0) (fields e (drop (suc k) ends) ++ line_end ∷ []) (place_of_end e k) (end-cut k h) (front_long k h))
+        (shown_field e s (head n (length ends) ++ fields e (take k ends)) (get_or ends k 0) (fields e (drop (suc k) ends) ++ line_end ∷ []) (place_of_end e k) (end_cut k h) (front_long k h))
 
     ends_read : (k : ℕ) → k ≤ length ends → ends_in e s k ≡ take k ends
     unfolding ends_in
     ends_read zero h = refl
     ends_read (suc k) h =
         ap₂ (λ (l : List ℕ) (x : ℕ). l ++ x ∷ []) (ends_read k (omega arith))
-        (shown_number e s (head n (length ends) ++ fields e (take k ends)) (get_or ends k 0) (fields e (drop (suc k) ends) ++ line_end ∷ []) (place_of_end e k) (end-cut k h) (front_long k h) (at_most_at (greatest e) ends k L.small_ends h))
+        (shown_number e s (head n (length ends) ++ fields e (take k ends)) (get_or ends k 0) (fields e (drop (suc k) ends) ++ line_end ∷ []) (place_of_end e k) (end_cut k h) (front_long k h) (at_most_at (greatest e) ends k L.small_ends h))
         ∙ sym (take-suc ends k 0 h)
 
     count_long : suc (length (prefix_of long ++ digits e n)) ≡ place_of_count e

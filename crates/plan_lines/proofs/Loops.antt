@@ -62,8 +62,8 @@ module _ (d : ℕ) where
       ∙ ap (λ (j : ℕ). sets (sets l (place_of_end d 0 - 1) (fields d (take k ends))) j (comma ∷ digits d x)) e)
 
   -- an end's digits stand before the end of the line
-  pub end-inside : (count k : ℕ) → k < count → place_of_end d k + step d ≤ bytes_for d count
-  end-inside count k h = omega (arith, mul-le-mul_left (step d) h, mul-suc (step d) k)
+  pub end_inside : (count k : ℕ) → k < count → place_of_end d k + step d ≤ bytes_for d count
+  end_inside count k h = omega (arith, mul-le-mul_left (step d) h, mul-suc (step d) k)
 
   -- ---- a number after a comma
 
@@ -87,20 +87,20 @@ module _ (d : ℕ) where
   ends_length s zero = refl
   ends_length s (suc k) = omega (arith, length-append (ends_in d s k) (number_at d s (place_of_end d k) ∷ []), ends_length s k)
 
-  pub end-at : (s : List ℕ) (count k : ℕ) → k < count → get_or (ends_in d s count) k 0 ≡ number_at d s (place_of_end d k)
+  pub end_at : (s : List ℕ) (count k : ℕ) → k < count → get_or (ends_in d s count) k 0 ≡ number_at d s (place_of_end d k)
   unfolding ends_in
-  end-at s zero k h = absurd (omega arith)
-  end-at s (suc count) k h = go (end-at s count k) (ℕ_discrete k count)
+  end_at s zero k h = absurd (omega arith)
+  end_at s (suc count) k h = go (end_at s count k) (ℕ_discrete k count)
     where
       go : (k < count → get_or (ends_in d s count) k 0 ≡ number_at d s (place_of_end d k)) → Dec (k ≡ count) → get_or (ends_in d s count ++ number_at d s (place_of_end d count) ∷ []) k 0 ≡ number_at d s (place_of_end d k)
       go ih (yes e) = get_or_at (ends_in d s count) (number_at d s (place_of_end d count)) [] 0 k (ends_length s count ∙ sym e) ∙ ap (λ (j : ℕ). number_at d s (place_of_end d j)) (sym e)
       go ih (no e) = get_or-append (ends_in d s count) (number_at d s (place_of_end d count) ∷ []) 0 k (omega (arith, ends_length s count)) ∙ ih (omega arith)
 
   -- each of them stands at its place
-  pub end-stands : (s : List ℕ) (count k : ℕ) → T (ends? d s count) → k < count → T (field? d s (place_of_end d k))
+  pub end_stands : (s : List ℕ) (count k : ℕ) → T (ends? d s count) → k < count → T (field? d s (place_of_end d k))
   unfolding ends?
-  end-stands s zero k t h = absurd (omega arith)
-  end-stands s (suc count) k t h = go (end-stands s count k (and_left (ends? d s count) (field? d s (place_of_end d count)) t)) (ℕ_discrete k count)
+  end_stands s zero k t h = absurd (omega arith)
+  end_stands s (suc count) k t h = go (end_stands s count k (and_left (ends? d s count) (field? d s (place_of_end d count)) t)) (ℕ_discrete k count)
     where
       go : (k < count → T (field? d s (place_of_end d k))) → Dec (k ≡ count) → T (field? d s (place_of_end d k))
       go ih (yes e) = subst (λ (j : ℕ). T (field? d s (place_of_end d j))) (sym e) (and_right (ends? d s count) (field? d s (place_of_end d count)) t)
@@ -119,7 +119,7 @@ module _ (d : ℕ) where
   ends_fail s count k h f = go (ends? d s count) refl
     where
       go : (t : Bool) → ends? d s count ≡ t → ends? d s count ≡ false
-      go true e = absurd (subst T f (end-stands s count k (subst T (sym e) tt) h))
+      go true e = absurd (subst T f (end_stands s count k (subst T (sym e) tt) h))
       go false e = e
 
   -- one more is read into a table

@@ -129,8 +129,8 @@ module _ (g : ℕ → ℕ) (len mid : ℕ) (t : List ℕ) where
 
 -- CLAIM: there is one longest common prefix
 pub match_unique : (g : ℕ → ℕ) (len mid i k k' : ℕ) → Match g len mid i k → Match g len mid i k' → k ≡ k'
-match_unique g len mid i k k' M N = omega (arith, not-below k k' M N (dec_lt k k'), not-below k' k N M (dec_lt k' k))
+match_unique g len mid i k k' M N = omega (arith, not_below k k' M N (dec_lt k k'), not_below k' k N M (dec_lt k' k))
   where
-    not-below : (a b : ℕ) → Match g len mid i a → Match g len mid i b → Dec (a < b) → b ≤ a
-    not-below a b A B (no h) = omega arith
-    not-below a b A B (yes h) = absurd (A.stops (omega (arith, B.agree.fits)) (omega (arith, B.agree.fits_mid)) (B.agree.same a h))
+    not_below : (a b : ℕ) → Match g len mid i a → Match g len mid i b → Dec (a < b) → b ≤ a
+    not_below a b A B (no h) = omega arith
+    not_below a b A B (yes h) = absurd (A.stops (omega (arith, B.agree.fits)) (omega (arith, B.agree.fits_mid)) (B.agree.same a h))

@@ -13,13 +13,13 @@ use Rattle.factors.proofs.Optimal.{best_unique}
 use Rattle.repetitions.specs.Block.{Block}
 use Rattle.report.specs.Text.{printed_turns, fewest_name, most_name, block_lines, text}
 use Rattle.writers.specs.Line.{line}
-use Rattle.report.specs.Meaning.{SplitPrinted, none-printed, best_printed, Printed, refused_alone, all_lines, ReportMeaning}
+use Rattle.report.specs.Meaning.{SplitPrinted, none_printed, best_printed, Printed, refused_alone, all_lines, ReportMeaning}
 use Rattle.report.proofs.Reports.{text_printed}
 
 pub split_printed_unique : (w : List ℕ) (c : Choice) (name s r : List ℕ) → SplitPrinted w c name s → SplitPrinted w c name r → s ≡ r
-split_printed_unique w c name s r (none-printed n e) (none-printed m f) = e ∙ sym f
-split_printed_unique w c name s r (none-printed n e) (best_printed fs C f) = absurd (n fs C.factorization)
-split_printed_unique w c name s r (best_printed es B e) (none-printed m f) = absurd (m es B.factorization)
+split_printed_unique w c name s r (none_printed n e) (none_printed m f) = e ∙ sym f
+split_printed_unique w c name s r (none_printed n e) (best_printed fs C f) = absurd (n fs C.factorization)
+split_printed_unique w c name s r (best_printed es B e) (none_printed m f) = absurd (m es B.factorization)
 split_printed_unique w c name s r (best_printed es B e) (best_printed fs C f) =
     e ∙ ap (λ (xs : List ℕ). line name (size xs ∷ []) ++ block_lines w 0 0 xs) (best_unique c (Block held_period printed_turns w) (length w) (size es) (size fs) es fs B C).1 ∙ sym f
 

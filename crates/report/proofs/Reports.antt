@@ -25,7 +25,7 @@ use Rattle.repetitions.proofs.BestClaims.{word_answers}
 use Rattle.finder.specs.Find.{record_limit}
 use Rattle.report.specs.Text.{printed_turns, program_limit, fewest_name, most_name, refused_text, split_lines, split_text, text}
 use Rattle.report.specs.Records.{RunsListed, longest_text}
-use Rattle.report.specs.Meaning.{SplitPrinted, none-printed, best_printed, Printed, refused_alone, all_lines, ReportMeaning}
+use Rattle.report.specs.Meaning.{SplitPrinted, none_printed, best_printed, Printed, refused_alone, all_lines, ReportMeaning}
 use Rattle.report.proofs.Splits.{ends_of, text_is, text_long}
 
 -- ---- the runs
@@ -59,7 +59,7 @@ unfolding split_text
 split_printed w choice name = go (last_cell printed_turns w choice) (word_answers held_period printed_turns (choice_of choice) w (length w))
   where
     go : (v : Cell) → Answers (choice_of choice) (Block held_period printed_turns w) (length w) v (ends_of w choice) → SplitPrinted w (choice_of choice) name (split_lines w name v (ends_of w choice))
-    go unreachable A = none-printed A refl
+    go unreachable A = none_printed A refl
     go (reached s p) A = best_printed (ends_of w choice) (rw A.sized A) (rw A.sized refl)
 
 -- CLAIM: the text has the lines that the documents ask

@@ -12,7 +12,7 @@ use Rattle.writers.specs.Line.{line}
 
 -- "fewest with its size and then its blocks, and most in the same way"; "With no split it prints fewest,none and most,none."
 pub data SplitPrinted (w : List ℕ) (c : Choice) (name s : List ℕ) : Type 0 where
-  none-printed : Unsplittable printed_turns w → s ≡ name ++ none_text → SplitPrinted w c name s
+  none_printed : Unsplittable printed_turns w → s ≡ name ++ none_text → SplitPrinted w c name s
   best_printed : (es : List ℕ) → Best c (Block held_period printed_turns w) (length w) (size es) es → s ≡ line name (size es ∷ []) ++ block_lines w 0 0 es → SplitPrinted w c name s
 
 -- "The lines are passes with n, each run in order, fewest ..., and most in the same way."

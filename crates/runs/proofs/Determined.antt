@@ -11,7 +11,7 @@ use Rattle.runs.specs.declared.Record.{Record}
 use Rattle.runs.specs.Run.{Entry, Before, Sorted, Lists}
 use Rattle.runs.specs.Table.{runs_of, stride, flat}
 use Rattle.runs.specs.Calls.{runs_outcome, runs_table, RunsMeaning}
-use Rattle.runs.proofs.Entries.{no_entry, not-before}
+use Rattle.runs.proofs.Entries.{no_entry, not_before}
 use Rattle.runs.proofs.RootClaims.{root_unique}
 use Rattle.runs.proofs.Listed.{runs_listed}
 use Rattle.runs.proofs.CallClaims.{runs_too_long, runs_short, runs_all}
@@ -53,7 +53,7 @@ tail_among x y xs ys e S h i r a =
     go (entry_head_or_tail y ys k.0 r k.1)
   where
     go : (y ≡ r) ⊎ ((j : ℕ) × Entry ys j r) → (j : ℕ) × Entry ys j r
-    go (inl f) = absurd (not-before r r refl refl (subst (λ (z : Record). Before z r) (e ∙ f) (S.0 i r a)))
+    go (inl f) = absurd (not_before r r refl refl (subst (λ (z : Record). Before z r) (e ∙ f) (S.0 i r a)))
     go (inr b) = b
 
 -- two sorted lists with the same entries are one

@@ -46,9 +46,9 @@ entry_one_row (x ∷ xs) (suc zero) r s h k = sym h ∙ k
 entry_one_row (x ∷ xs) (suc (suc i)) r s h k = entry_one_row xs (suc i) r s h k
 
 -- records with one first and one period are not in order
-pub not-before : (r s : Record) → r.first ≡ s.first → r.period ≡ s.period → Before r s → ⊥
-not-before r s e f (inl h) = omega arith
-not-before r s e f (inr h) = omega arith
+pub not_before : (r s : Record) → r.first ≡ s.first → r.period ≡ s.period → Before r s → ⊥
+not_before r s e f (inl h) = omega arith
+not_before r s e f (inr h) = omega arith
 
 -- two entries of a sorted list with one first and one period are one
 pub entry_same : (xs : List Record) → Sorted xs → (i j : ℕ) (r s : Record) → Entry xs i r → Entry xs j s → r.first ≡ s.first → r.period ≡ s.period → i ≡ j
@@ -56,8 +56,8 @@ entry_same xs S zero j r s h k e f = absurd h
 entry_same xs S (suc i) zero r s h k e f = absurd k
 entry_same [] S (suc i) (suc j) r s h k e f = absurd h
 entry_same (x ∷ xs) S (suc zero) (suc zero) r s h k e f = refl
-entry_same (x ∷ xs) S (suc zero) (suc (suc j)) r s h k e f = absurd (not-before r s e f (subst (λ (y : Record). Before y s) h (S.0 (suc j) s k)))
-entry_same (x ∷ xs) S (suc (suc i)) (suc zero) r s h k e f = absurd (not-before s r (sym e) (sym f) (subst (λ (y : Record). Before y r) k (S.0 (suc i) r h)))
+entry_same (x ∷ xs) S (suc zero) (suc (suc j)) r s h k e f = absurd (not_before r s e f (subst (λ (y : Record). Before y s) h (S.0 (suc j) s k)))
+entry_same (x ∷ xs) S (suc (suc i)) (suc zero) r s h k e f = absurd (not_before s r (sym e) (sym f) (subst (λ (y : Record). Before y r) k (S.0 (suc i) r h)))
 entry_same (x ∷ xs) S (suc (suc i)) (suc (suc j)) r s h k e f = ap suc (entry_same xs S.1 (suc i) (suc j) r s h k e f)
 
 pub entry_one_number : (xs : List Record) → Sorted xs → (i j : ℕ) (r : Record) → Entry xs i r → Entry xs j r → i ≡ j

@@ -81,9 +81,9 @@ module _ (f : ℕ → ℕ) where
   )
 
   -- as far left, and as far right, as the step p goes
-  left-most : (p a : ℕ) → (A : ℕ) × (A ≤ a) × ((i : ℕ) → A ≤ i → i < a → f i ≡ f (i + p)) × ((i : ℕ) → suc i ≡ A → f i ≢ f (i + p))
-  left-most p zero = (zero, omega arith, λ i x y. omega arith, λ i e. absurd (omega arith))
-  left-most p (suc a) = pick (left-most p a) (ℕ_discrete (f a) (f (a + p)))
+  left_most : (p a : ℕ) → (A : ℕ) × (A ≤ a) × ((i : ℕ) → A ≤ i → i < a → f i ≡ f (i + p)) × ((i : ℕ) → suc i ≡ A → f i ≢ f (i + p))
+  left_most p zero = (zero, omega arith, λ i x y. omega arith, λ i e. absurd (omega arith))
+  left_most p (suc a) = pick (left_most p a) (ℕ_discrete (f a) (f (a + p)))
     where
       pick : (A : ℕ) × (A ≤ a) × ((i : ℕ) → A ≤ i → i < a → f i ≡ f (i + p)) × ((i : ℕ) → suc i ≡ A → f i ≢ f (i + p)) → Dec (f a ≡ f (a + p))
           → (A : ℕ) × (A ≤ suc a) × ((i : ℕ) → A ≤ i → i < suc a → f i ≡ f (i + p)) × ((i : ℕ) → suc i ≡ A → f i ≢ f (i + p))
@@ -110,7 +110,7 @@ module _ (f : ℕ → ℕ) where
 
   -- every part twice its unit or longer lies in a run with its unit
   pub run_exists : (n a b p : ℕ) → SmallestIn f a b p → a + 2 * p ≤ b → b ≤ n → (A : ℕ) × (B : ℕ) × RunIn f n A B p × (A ≤ a) × (b ≤ B)
-  run_exists n a b p U h w = go (left-most p a) (right_most p b (n - b))
+  run_exists n a b p U h w = go (left_most p a) (right_most p b (n - b))
     where
       go : (A : ℕ) × (A ≤ a) × ((i : ℕ) → A ≤ i → i < a → f i ≡ f (i + p)) × ((i : ℕ) → suc i ≡ A → f i ≢ f (i + p))
           → (B : ℕ) × (b ≤ B) × (B ≤ b + (n - b)) × ((i : ℕ) → b ≤ i → i < B → f i ≡ f (i - p)) × (B < b + (n - b) → f B ≢ f (B - p))

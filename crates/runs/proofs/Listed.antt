@@ -29,13 +29,13 @@ differ x y h = not_T (eqb x y) (λ t. h (eqb→eq x y t))
 differs : (x y : ℕ) → T (not (eqb x y)) → x ≢ y
 differs x y t e = T_not (eqb x y) t (subst (λ (z : ℕ). T (eqb x z)) e (eqb_refl x))
 
-left-sound : (w : List ℕ) (a p i : ℕ) → T (left? w a p) → suc i ≡ a → symbol w i ≢ symbol w (i + p)
-left-sound w zero p i t e = absurd (omega arith)
-left-sound w (suc a) p i t e = let z : i ≡ a = omega arith in rw z (differs (symbol w a) (symbol w (a + p)) t)
+left_sound : (w : List ℕ) (a p i : ℕ) → T (left? w a p) → suc i ≡ a → symbol w i ≢ symbol w (i + p)
+left_sound w zero p i t e = absurd (omega arith)
+left_sound w (suc a) p i t e = let z : i ≡ a = omega arith in rw z (differs (symbol w a) (symbol w (a + p)) t)
 
-left-complete : (w : List ℕ) (a p : ℕ) → ((i : ℕ) → suc i ≡ a → symbol w i ≢ symbol w (i + p)) → T (left? w a p)
-left-complete w zero p h = tt
-left-complete w (suc a) p h = differ (symbol w a) (symbol w (a + p)) (h a refl)
+left_complete : (w : List ℕ) (a p : ℕ) → ((i : ℕ) → suc i ≡ a → symbol w i ≢ symbol w (i + p)) → T (left? w a p)
+left_complete w zero p h = tt
+left_complete w (suc a) p h = differ (symbol w a) (symbol w (a + p)) (h a refl)
 
 right_sound : (w : List ℕ) (b p : ℕ) → T (right? w b p) → b < length w → symbol w b ≢ symbol w (b - p)
 right_sound w b p t l = go (or_cases (eqb b (length w)) (not (eqb (symbol w b) (symbol w (b - p)))) t)
@@ -66,7 +66,7 @@ module _ (w : List ℕ) (a b : ℕ) (l : b ≤ length w) where
         smallest = part-smallest w a b l (omega (arith, R.smallest.period.positive, R.smallest.period.fits));
         twice = omega (arith, R.long, R.smallest.period.positive);
         within = l;
-        left = λ i z. left-sound w a p i (and_left (left? w a p) (right? w b p) u) z;
+        left = λ i z. left_sound w a p i (and_left (left? w a p) (right? w b p) u) z;
         right = right_sound w b p (and_right (left? w a p) (right? w b p) u);
       }
 
@@ -82,7 +82,7 @@ module _ (w : List ℕ) (a b : ℕ) (l : b ≤ length w) where
           permitted = tt;
         })
         (and_intro (left? w a q) (right? w b q)
-        (left-complete w a q (subst (λ (x : ℕ). (i : ℕ) → suc i ≡ a → symbol w i ≢ symbol w (i + x)) e R.left))
+        (left_complete w a q (subst (λ (x : ℕ). (i : ℕ) → suc i ≡ a → symbol w i ≢ symbol w (i + x)) e R.left))
         (right_complete w b q l (subst (λ (x : ℕ). b < length w → symbol w b ≢ symbol w (b - x)) e R.right))),
   )
     where
@@ -177,8 +177,8 @@ later_greater w a b c l m t u = go (dec_lt (smallest_period (part w a b)) (small
     C : RunIn (symbol w) (length w) a c (smallest_period (part w a c))
     C = run_sound w a c m u
 
-    not-above : smallest_period (part w a c) ≤ b - a → smallest_period (part w a b) ≤ smallest_period (part w a c)
-    not-above h =
+    not_above : smallest_period (part w a c) ≤ b - a → smallest_period (part w a b) ≤ smallest_period (part w a c)
+    not_above h =
         B.smallest.least (smallest_period (part w a c))
         (period_piece (symbol w) C.smallest.period (omega arith) (omega arith) (omega (arith, B.smallest.period.fits, B.smallest.period.positive)))
 
@@ -192,7 +192,7 @@ later_greater w a b c l m t u = go (dec_lt (smallest_period (part w a b)) (small
 
     go : Dec (smallest_period (part w a b) < smallest_period (part w a c)) → smallest_period (part w a b) < smallest_period (part w a c)
     go (yes h) = h
-    go (no h) = absurd (same (omega (arith, not-above (omega (arith, B.smallest.period.fits, B.smallest.period.positive)))))
+    go (no h) = absurd (same (omega (arith, not_above (omega (arith, B.smallest.period.fits, B.smallest.period.positive)))))
 
 at_sorted : (w : List ℕ) (a d : ℕ) → a + d ≤ length w → Sorted (rows_at w a d)
 unfolding rows_at

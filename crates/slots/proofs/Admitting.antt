@@ -72,8 +72,8 @@ module _ (c : Choice) (w runs : List ℕ) (R : Tabled w runs) (e next r lives : 
   old_entry : (k : ℕ) → k < lives → entry_of w u k ≡ entry_of w t k
   old_entry k h = D.old (list_row n + k) (omega arith)
 
-  new-entry : (k : ℕ) → lives ≤ k → k < lives + (r - next) → entry_of w u k ≡ next + (k - lives)
-  new-entry k h l =
+  new_entry : (k : ℕ) → lives ≤ k → k < lives + (r - next) → entry_of w u k ≡ next + (k - lives)
+  new_entry k h l =
       let z : list_row n + k ≡ list_row n + lives + (k - lives) = omega arith in
       ap (λ (y : ℕ). get_or u y 0) z ∙ D.new (k - lives) (omega (arith, A.low))
 
@@ -85,12 +85,12 @@ module _ (c : Choice) (w runs : List ℕ) (R : Tabled w runs) (e next r lives : 
 
       listed : (k : ℕ) → Dec (k < lives) → k < lives + (r - next) → (entry_of w u k < length (runs_of w)) × ((record_at runs (entry_of w u k)).first < e + 1)
       listed k (yes x) h = rw (old_entry k x) ((S.listed k x).0, omega (arith, (S.listed k x).1))
-      listed k (no x) h = rw (new-entry k (omega arith) h) (omega (arith, A.high), before_next (next + (k - lives)) (omega arith))
+      listed k (no x) h = rw (new_entry k (omega arith) h) (omega (arith, A.high), before_next (next + (k - lives)) (omega arith))
 
       lists : (i : ℕ) → Dec (i < next) → Dec (i < r) → i < length (runs_of w) → (record_at runs i).first < e + 1 → e ≤ (record_at runs i).last
           → (k : ℕ) × (k < lives + (r - next)) × (entry_of w u k ≡ i)
       lists i (yes x) y h f g = let q = S.lists i h (before i x) g in (q.0, omega (arith, q.1), old_entry q.0 q.1 ∙ q.2)
-      lists i (no x) (yes y) h f g = (lives + (i - next), omega arith, new-entry (lives + (i - next)) (omega arith) (omega arith) ∙ omega arith)
+      lists i (no x) (yes y) h f g = (lives + (i - next), omega arith, new_entry (lives + (i - next)) (omega arith) (omega arith) ∙ omega arith)
       lists i (no x) (no y) h f g = absurd (omega (arith, A.stops (omega arith), R.sorted r i (omega arith) h))
 
       slots : (i x : ℕ) → i < length (runs_of w) → e ≤ (record_at runs i).last → Holding runs i x → x < e → e ≤ x + two_of runs i → Lead c w runs i x (get_or u (place_of w runs i x) 0)

@@ -188,9 +188,9 @@ module _ (c : Choice) (w runs : List ℕ) (R : Tabled w runs) (e : ℕ) (some : 
       unfolding best_with
       top = go (dec_lt (e - a) two)
         where
-          none-there : e - a < two → (j : ℕ) → Seen w runs e t (suc k) j → Seen w runs e t k j
-          none-there x j (inl s) = s
-          none-there x j (inr s) = absurd (omega (arith, s.1.from, s.1.below, multiple_least (e - j) two (omega (arith, s.1.below)) s.1.multiple))
+          none_there : e - a < two → (j : ℕ) → Seen w runs e t (suc k) j → Seen w runs e t k j
+          none_there x j (inl s) = s
+          none_there x j (inr s) = absurd (omega (arith, s.1.from, s.1.below, multiple_least (e - j) two (omega (arith, s.1.below)) s.1.multiple))
 
           to : (j : ℕ) → Seen w runs e t k j ⊎ Start a two e j → Seen w runs e t (suc k) j
           to j (inl s) = inl s
@@ -201,7 +201,7 @@ module _ (c : Choice) (w runs : List ℕ) (R : Tabled w runs) (e : ℕ) (some : 
           of j (inr s) = inr s.1
 
           go : Dec (e - a < two) → Top (known_rank c w e) (Seen w runs e t (suc k)) (best_with c n v a two e best)
-          go (yes x) = rw (lt-ltb (e - a) two x) (top_same (known_rank c w e) (Seen w runs e t k) (Seen w runs e t (suc k)) best (λ j s. inl s) (none-there x) U.top)
+          go (yes x) = rw (lt-ltb (e - a) two x) (top_same (known_rank c w e) (Seen w runs e t k) (Seen w runs e t (suc k)) best (λ j s. inl s) (none_there x) U.top)
           go (no x) =
               let q : preferred (rank_in c v) best (lead_of c n v a two e) ≡ preferred (known_rank c w e) best (lead_of c n v a two e) =
               preferred-same (rank_in c v) (known_rank c w e) best (lead_of c n v a two e) (in_table c w e v knows best (omega (arith, best_bound u k kept k best U)))

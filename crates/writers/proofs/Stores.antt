@@ -39,8 +39,8 @@ stored_length {t} {a} {xs} S = ap length S.bytes ∙ length-sets t a xs
 pub stored_as : {t : List ℕ} {a : ℕ} {xs u : List ℕ} {b : ℕ} (ys : List ℕ) → xs ≡ ys → Stored t a xs u b → Stored t a ys u b
 stored_as {t} {a} {xs} {u} {b} ys e S = subst (λ (l : List ℕ). Stored t a l u b) e S
 
-pub left-all : (t : List ℕ) (a : ℕ) (xs ys : List ℕ) → xs ≡ ys → Left t a xs t a ys
-left-all t a xs ys e = record { place = ap (λ (l : List ℕ). a + length l) (sym e); bytes = ap (sets t a) (sym e) }
+pub left_all : (t : List ℕ) (a : ℕ) (xs ys : List ℕ) → xs ≡ ys → Left t a xs t a ys
+left_all t a xs ys e = record { place = ap (λ (l : List ℕ). a + length l) (sym e); bytes = ap (sets t a) (sym e) }
 
 module _ {t : List ℕ} {a : ℕ} {xs u : List ℕ} {b : ℕ} where
   -- the same, written out otherwise
@@ -55,18 +55,18 @@ module _ {t : List ℕ} {a : ℕ} {xs u : List ℕ} {b : ℕ} where
   }
 
   -- nothing is left
-  pub left-none : Left t a xs u b [] → Stored t a xs u b
-  left-none L = record { place = omega (arith, L.place); bytes = L.bytes }
+  pub left_none : Left t a xs u b [] → Stored t a xs u b
+  left_none L = record { place = omega (arith, L.place); bytes = L.bytes }
 
   -- the last piece is stored
-  pub left-last : {ys v : List ℕ} {c : ℕ} → Left t a xs u b ys → Stored u b ys v c → Stored t a xs v c
-  left-last {ys} L S = record { place = omega (arith, L.place, S.place); bytes = S.bytes ∙ L.bytes }
+  pub left_last : {ys v : List ℕ} {c : ℕ} → Left t a xs u b ys → Stored u b ys v c → Stored t a xs v c
+  left_last {ys} L S = record { place = omega (arith, L.place, S.place); bytes = S.bytes ∙ L.bytes }
 
 pub stored_none : (t : List ℕ) (a : ℕ) → Stored t a [] t a
 stored_none t a = record { place = sym (add-zero a); bytes = refl }
 
 pub stored_more : {t : List ℕ} {a : ℕ} {xs u : List ℕ} {b : ℕ} {ys v : List ℕ} {c : ℕ} → Stored t a xs u b → Stored u b ys v c → Stored t a (xs ++ ys) v c
-stored_more {t} {a} {xs} {u} {b} {ys} S R = left-last (left_less ys (left-all t a (xs ++ ys) (xs ++ ys) refl) S) R
+stored_more {t} {a} {xs} {u} {b} {ys} S R = left_last (left_less ys (left_all t a (xs ++ ys) (xs ++ ys) refl) S) R
 
 -- ---- bytes
 

@@ -32,8 +32,8 @@ narrow : (long : Bool) (d : ℕ) → d ≡ width_of long → d ≤ widest
 narrow long d e = omega (arith, e, width_bound long)
 
 -- the bytes are a line of the kind
-a-line : (long t : Bool) (s : List ℕ) → t ≡ line? long s → t ≡ true → T (line? long s)
-a-line long t s e y = subst T (sym y ∙ e) tt
+a_line : (long t : Bool) (s : List ℕ) → t ≡ line? long s → t ≡ true → T (line? long s)
+a_line long t s e y = subst T (sym y ∙ e) tt
 
 parts : (long : Bool) (s : List ℕ) (d : ℕ) → d ≡ width_of long → T (line? long s) → Parts long d s
 parts long s d e l = subst (λ (w : ℕ). Parts long w s) (sym e) (line-parts long s l)
@@ -44,8 +44,8 @@ stated d s at k e f = f ∙ ap (number_at d s) e
 
 -- what the judge said of what was read is said of n and the ends
 module _ (long : Bool) (s : List ℕ) (d most n k : ℕ) (wide : d ≡ width_of long) (greatest : most ≡ limit_of long) (length : n ≡ number_at d s place_of_length) (counted : k ≡ number_at d s (place_of_count d)) where
-  verdict-said : (o : Outcome) → o ≡ plausible most n (ends_in d s k) → o ≡ plausible (limit_of long) (number long s) (ends long s)
-  verdict-said o e =
+  verdict_said : (o : Outcome) → o ≡ plausible most n (ends_in d s k) → o ≡ plausible (limit_of long) (number long s) (ends long s)
+  verdict_said o e =
       e
       ∙ ap₂ (λ (x j : ℕ). plausible most x (ends_in d s j)) length counted
       ∙ ap₂ (λ (m w : ℕ). plausible m (number_at w s place_of_length) (ends_in w s (number_at w s (place_of_count w)))) greatest wide
@@ -53,7 +53,7 @@ module _ (long : Bool) (s : List ℕ) (d most n k : ℕ) (wide : d ≡ width_of 
   -- the ends are not refused, and are counted
   judged : (x : ℕ) → accepted (x ∷ []) ≡ plausible most n (ends_in d s k) → (plausible (limit_of long) (number long s) (ends long s) ≡ accepted (x ∷ [])) × (x ≡ count long s)
   judged x e =
-      let j = judge_counts (limit_of long) (number long s) (ends long s) (Count x) x (verdict-said (accepted (x ∷ [])) e) refl in
+      let j = judge_counts (limit_of long) (number long s) (ends long s) (Count x) x (verdict_said (accepted (x ∷ [])) e) refl in
       (j.0, j.1 ∙ ends_length (width_of long) s (count long s))
 
 pub returns-then-not-is_line : goal.returns-then-not-is_line
@@ -68,7 +68,7 @@ pub number-n-requires : goal.number-n-requires
 number-n-requires c =
     let long = c.is_long-long.result in
     let w = c.width_of-width in
-    let P = parts long c.args.s.now w.result w.ensures (a-line long _ _ c.is_line.ensures c.if-not-is_line.false) in
+    let P = parts long c.args.s.now w.result w.ensures (a_line long _ _ c.is_line.ensures c.if-not-is_line.false) in
     (omega (arith, P.sized), narrow long w.result w.ensures, P.number)
 
 pub number-count-requires : goal.number-count-requires
@@ -76,7 +76,7 @@ number-count-requires c =
     let long = c.is_long-long.result in
     let s = c.args.s.now in
     let w = c.width_of-width in
-    let P = parts long s w.result w.ensures (a-line long _ _ c.is_line.ensures c.if-not-is_line.false) in
+    let P = parts long s w.result w.ensures (a_line long _ _ c.is_line.ensures c.if-not-is_line.false) in
     let e = c.count_place.ensures in (
       omega (arith, P.sized, e),
       narrow long w.result w.ensures,
@@ -88,7 +88,7 @@ judge_line-requires c =
     let long = c.is_long-long.result in
     let s = c.args.s.now in
     let w = c.width_of-width in
-    let P = parts long s w.result w.ensures (a-line long _ _ c.is_line.ensures c.if-not-is_line.false) in
+    let P = parts long s w.result w.ensures (a_line long _ _ c.is_line.ensures c.if-not-is_line.false) in
     let k = stated w.result s _ _ c.count_place.ensures c.number-count.ensures in (
       subst (λ (j : ℕ). bytes_for w.result j ≤ length s) (sym k) (omega (arith, P.sized)),
       narrow long w.result w.ensures,
@@ -104,7 +104,7 @@ returns-then-table-k c =
     let w = c.width_of-width in
     let k = stated w.result s _ _ c.count_place.ensures c.number-count.ensures in
     let j = judged long s w.result _ _ _ w.ensures c.limit_of-most.ensures c.number-n.ensures k c.in-Count.k c.in-Count.ensures in
-    let l = a-line long _ _ c.is_line.ensures c.if-not-is_line.false in
+    let l = a_line long _ _ c.is_line.ensures c.if-not-is_line.false in
     let r = read_too_few long s t l _ j.0 (omega (arith, j.1, ends_length (width_of long) s (count long s))) in
     let a = read_answered long s t _ _ c.is_long-long.ensures r.0 r.1 in
     record { answer = a.0; written = a.1.0; meaning = a.1.1 }
@@ -114,7 +114,7 @@ read_ends-requires c =
     let long = c.is_long-long.result in
     let s = c.args.s.now in
     let w = c.width_of-width in
-    let P = parts long s w.result w.ensures (a-line long _ _ c.is_line.ensures c.if-not-is_line.false) in
+    let P = parts long s w.result w.ensures (a_line long _ _ c.is_line.ensures c.if-not-is_line.false) in
     let k = stated w.result s _ _ c.count_place.ensures c.number-count.ensures in
     let j = judged long s w.result _ _ _ w.ensures c.limit_of-most.ensures c.number-n.ensures k c.in-Count.k c.in-Count.ensures in
     let e = j.1 ∙ ap (λ (d : ℕ). number_at d s (place_of_count d)) (sym w.ensures) in (
@@ -131,8 +131,8 @@ returns-in-Refused c =
     let t = c.args.table.now in
     let w = c.width_of-width in
     let k = stated w.result s _ _ c.count_place.ensures c.number-count.ensures in
-    let p = sym (verdict-said long s w.result _ _ _ w.ensures c.limit_of-most.ensures c.number-n.ensures k _ c.in-Refused.ensures) in
-    let l = a-line long _ _ c.is_line.ensures c.if-not-is_line.false in
+    let p = sym (verdict_said long s w.result _ _ _ w.ensures c.limit_of-most.ensures c.number-n.ensures k _ c.in-Refused.ensures) in
+    let l = a_line long _ _ c.is_line.ensures c.if-not-is_line.false in
     let r = read_refused long s t l _ _ p in
     let a = read_answered long s t _ _ c.is_long-long.ensures r.0 r.1 in
     record { answer = a.0; written = a.1.0; meaning = a.1.1 }
@@ -145,7 +145,7 @@ returns-else-table-k c =
     let w = c.width_of-width in
     let k = stated w.result s _ _ c.count_place.ensures c.number-count.ensures in
     let j = judged long s w.result _ _ _ w.ensures c.limit_of-most.ensures c.number-n.ensures k c.in-Count.k c.in-Count.ensures in
-    let line = a-line long _ _ c.is_line.ensures c.if-not-is_line.false in
+    let line = a_line long _ _ c.is_line.ensures c.if-not-is_line.false in
     let l = ends_length (width_of long) s (count long s) in
     let r = read_plan long s t line _ j.0 (omega (arith, j.1, l)) in
     let n = c.number-n.ensures ∙ ap (λ (d : ℕ). number_at d s place_of_length) w.ensures in

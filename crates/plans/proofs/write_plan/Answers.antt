@@ -36,8 +36,8 @@ module _ (n : ℕ) (ends : List ℕ) (k : ℕ) (said : accepted (k ∷ []) ≡ p
         omega (arith, h, step-bound d k h, judged.1, few)
 
     -- the line has the bytes that are computed
-    long-enough : (b : ℕ) → b ≡ bytes_for d k → length (plan_line n ends) ≡ b
-    long-enough b e =
+    long_enough : (b : ℕ) → b ≡ bytes_for d k → length (plan_line n ends) ≡ b
+    long_enough b e =
         length-line (needs_long n) n ends
         ∙ ap (λ (w : ℕ). bytes_for w (length ends)) (sym by_kind)
         ∙ ap (bytes_for d) (sym judged.1)
@@ -49,7 +49,7 @@ returns-then-out-bytes c =
     let ends = c.args.ends.now in
     let t = c.args.out.now in
     let k = c.in-Count.count in
-    let e = long-enough n ends k c.in-Count.ensures _ _ c.needs_long-long.ensures c.width_of.ensures _ c.bytes_for-bytes.ensures in
+    let e = long_enough n ends k c.in-Count.ensures _ _ c.needs_long-long.ensures c.width_of.ensures _ c.bytes_for-bytes.ensures in
     let w = write_too_few n ends t _ (judged n ends k c.in-Count.ensures).0 (omega (arith, e)) in
     let a = write_answered n ends t _ _ w.0 w.1 in
     record { answer = a.0; written = a.1.0; meaning = a.1.1 }
@@ -59,7 +59,7 @@ write_line-requires c =
     let n = c.args.n in
     let ends = c.args.ends.now in
     let k = c.in-Count.count in
-    let e = long-enough n ends k c.in-Count.ensures _ _ c.needs_long-long.ensures c.width_of.ensures _ c.bytes_for-bytes.ensures in
+    let e = long_enough n ends k c.in-Count.ensures _ _ c.needs_long-long.ensures c.width_of.ensures _ c.bytes_for-bytes.ensures in
     let L = plausible-line n ends _ (judged n ends k c.in-Count.ensures).0 in
     let s = sym c.needs_long-long.ensures in (
       subst (λ (x : Bool). bytes_for (width_of x) (length ends) ≤ length c.args.out.now) s (omega (arith, e, length-line (needs_long n) n ends)),
@@ -83,7 +83,7 @@ returns-else-out-bytes c =
     let ends = c.args.ends.now in
     let t = c.args.out.now in
     let k = c.in-Count.count in
-    let e = long-enough n ends k c.in-Count.ensures _ _ c.needs_long-long.ensures c.width_of.ensures _ c.bytes_for-bytes.ensures in
+    let e = long_enough n ends k c.in-Count.ensures _ _ c.needs_long-long.ensures c.width_of.ensures _ c.bytes_for-bytes.ensures in
     let room : length (plan_line n ends) ≤ length t = omega (arith, e) in
     let w = write_written n ends t _ (judged n ends k c.in-Count.ensures).0 room in
     let a =

@@ -7,7 +7,7 @@ use borrow.Author.Tests.{eq-eqb, ne_eqb}
 use lib.ListN.{length, get_or, take, length-append}
 use Rattle.laws.proofs.Stores.{stored_next}
 use Rattle.nodes.specs.Inner.{marked}
-use Rattle.nodes.proofs.Marks.{marked-most, mark_skip, mark_add}
+use Rattle.nodes.proofs.Marks.{marked_most, mark_skip, mark_add}
 use Rattle.nodes.proofs.inner.pick.Goals as goal
 
 pub loop-i-preserved-then-marks-i-ne1 : goal.loop-i-preserved-then-marks-i-ne1
@@ -21,7 +21,7 @@ loop-i-preserved-then-marks-i-ne1 c =
 pub overflow_add-found : goal.overflow_add-found
 overflow_add-found c =
     let l = c.loop-i in
-    omega (arith, l.invariant.1, marked-most c.args.marks.now l.i (omega arith))
+    omega (arith, l.invariant.1, marked_most c.args.marks.now l.i (omega arith))
 
 pub loop-i-preserved : goal.loop-i-preserved
 loop-i-preserved c =

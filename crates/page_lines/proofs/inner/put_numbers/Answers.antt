@@ -5,7 +5,7 @@ use Prim.Native.Nat.{ℕ, ◌+◌}
 use native.Mathlib.Omega.{arith}
 use lib.ListN.{get_or, drop}
 use lib.Seq.{sets}
-use Rattle.writers.proofs.Stores.{Left, stored, stored_length, left-all, left_as, left_less, left-none}
+use Rattle.writers.proofs.Stores.{Left, stored, stored_length, left_all, left_as, left_less, left_none}
 use Rattle.page_lines.specs.Line.{widths, width_of, start_of, right_aligned, columns}
 use Rattle.page_lines.proofs.Columns.{start_first, start_next, column_within, line-number_short, right_length, columns-more, columns-done}
 use Rattle.page_lines.proofs.inner.put_numbers.Goals as goal
@@ -15,7 +15,7 @@ loop-c-init c =
     let g = c.args in
     let ys = columns widths g.numbers.now in
     let e : g.at ≡ g.at + start_of 0 = omega (arith, start_first) in
-    (omega arith, refl, subst (λ (b : ℕ). Left g.out.now g.at ys g.out.now b ys) e (left-all g.out.now g.at ys ys refl))
+    (omega arith, refl, subst (λ (b : ℕ). Left g.out.now g.at ys g.out.now b ys) e (left_all g.out.now g.at ys ys refl))
 
 -- the column of this turn lies within the line
 pub overflow_add-at : goal.overflow_add-at
@@ -46,4 +46,4 @@ loop-c-preserved c =
 pub returns : goal.returns
 returns c =
     let l = c.loop-c in
-    (left-none (left_as [] (columns-done widths c.args.numbers.now l.c (omega arith)) l.invariant.2)).bytes
+    (left_none (left_as [] (columns-done widths c.args.numbers.now l.c (omega arith)) l.invariant.2)).bytes

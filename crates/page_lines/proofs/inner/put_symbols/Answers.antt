@@ -8,7 +8,7 @@ use native.Mathlib.Numerals.{add-one}
 use lib.ListN.{length, get_or, drop}
 use lib.Seq.{sets}
 use Rattle.decimals.proofs.Claims.{digits-in_length}
-use Rattle.writers.proofs.Stores.{Left, stored, stored_length, left-all, left_as, left_less, left-last}
+use Rattle.writers.proofs.Stores.{Left, stored, stored_length, left_all, left_as, left_less, left_last}
 use Rattle.page_lines.specs.Line.{spaces, hex_byte, hex_digits, symbols, left_aligned}
 use Rattle.page_lines.proofs.Columns.{symbols-length, symbols-more, symbols-done}
 use Rattle.page_lines.proofs.inner.put_symbols.Goals as goal
@@ -19,7 +19,7 @@ loop-i-init c =
     let s = symbols g.digits g.shown.now in
     let ys = s ++ spaces (g.width - g.digits * length g.shown.now) in
     let e = ap (λ (n : ℕ). s ++ spaces (g.width - n)) (symbols-length g.digits g.shown.now) in
-    (omega arith, refl, subst (λ (b : ℕ). Left g.out.now g.at (left_aligned g.width s) g.out.now b ys) {x = g.at} {y = g.at + g.digits * 0} (omega (arith, mul-zero g.digits)) (left-all g.out.now g.at (left_aligned g.width s) ys e))
+    (omega arith, refl, subst (λ (b : ℕ). Left g.out.now g.at (left_aligned g.width s) g.out.now b ys) {x = g.at} {y = g.at + g.digits * 0} (omega (arith, mul-zero g.digits)) (left_all g.out.now g.at (left_aligned g.width s) ys e))
 
 pub loop-i-preserved : goal.loop-i-preserved
 loop-i-preserved c =
@@ -46,4 +46,4 @@ returns c =
     let e : l.i ≡ length xs = omega arith in
     let S = stored l.out (g.at + g.digits * l.i) blank c.fill.new.out (g.at + g.digits * l.i + length blank)
     (refl, c.fill.ensures ∙ ap (λ (i : ℕ). sets l.out (g.at + g.digits * l.i) (spaces (g.width - g.digits * i))) e) in
-    (left-last (left_as blank (ap (λ (s : List ℕ). s ++ blank) (symbols-done g.digits xs l.i (omega arith))) l.invariant.2) S).bytes
+    (left_last (left_as blank (ap (λ (s : List ℕ). s ++ blank) (symbols-done g.digits xs l.i (omega arith))) l.invariant.2) S).bytes

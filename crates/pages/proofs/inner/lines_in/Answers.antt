@@ -8,12 +8,12 @@ use Rattle.periods.specs.Period.{part, smallest_period, held_period}
 use Rattle.periods.specs.Width.{word_of}
 use Rattle.periods.proofs.BlockUnit.{block_unit-of_block}
 use Rattle.factors.specs.Factorization.{text_of_blocks}
-use Rattle.factors.proofs.BlockByBlock.{none-taken, next_block, one_more_taken, text_more, text_done}
+use Rattle.factors.proofs.BlockByBlock.{none_taken, next_block, one_more_taken, text_more, text_done}
 use Rattle.repetitions.specs.Block.{Block}
 use Rattle.repetitions.proofs.Blocks.{block_up, block_unit_lem}
 use Rattle.paths.proofs.Latest.{block_latest}
-use Rattle.paths.proofs.Noting.{none-noted}
-use Rattle.writers.proofs.Stores.{stored, stored_length, left-all, left_as, left_less, left-none}
+use Rattle.paths.proofs.Noting.{none_noted}
+use Rattle.writers.proofs.Stores.{stored, stored_length, left_all, left_as, left_less, left_none}
 use Rattle.page_lines.specs.Line.{line_bytes}
 use Rattle.pages.specs.Page.{page_line, page}
 use Rattle.pages.proofs.PageClaims.{page_line-length}
@@ -23,7 +23,7 @@ pub loop-k-init : goal.loop-k-init
 loop-k-init c =
     let g = c.args in
     let w = word_of g.wide g.bytes.now g.codes.now in
-    (omega arith, refl, none-taken c.requires.0.1, left-all g.out.now 0 (page g.form w g.ends.now) _ refl, none-noted _ _ _ refl)
+    (omega arith, refl, none_taken c.requires.0.1, left_all g.out.now 0 (page g.form w g.ends.now) _ refl, none_noted _ _ _ refl)
 
 pub overflow_cast-unit : goal.overflow_cast-unit
 overflow_cast-unit c =
@@ -72,4 +72,4 @@ returns c =
     let g = c.args in
     let i = c.loop-k in
     let w = word_of g.wide g.bytes.now g.codes.now in
-    (left-none (left_as [] (text_done (page_line g.form w) g.ends.now i.k i.before (omega arith)) i.invariant.3)).bytes
+    (left_none (left_as [] (text_done (page_line g.form w) g.ends.now i.k i.before (omega arith)) i.invariant.3)).bytes

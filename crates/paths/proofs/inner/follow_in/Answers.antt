@@ -18,8 +18,8 @@ use Rattle.factors.proofs.Judging.{end_fits, judged_from, judged_first, judged_b
 use Rattle.paths.specs.Graph.{ends_of_pairs}
 use Rattle.paths.specs.LookUp.{Found}
 use Rattle.paths.specs.Calls.{segment?}
-use Rattle.paths.proofs.PathJudgeClaims.{length-ends_of_pairs, end-given}
-use Rattle.paths.proofs.Noting.{none-noted, piece_no_block, piece_compared}
+use Rattle.paths.proofs.PathJudgeClaims.{length-ends_of_pairs, end_given}
+use Rattle.paths.proofs.Noting.{none_noted, piece_no_block, piece_compared}
 use Rattle.paths.proofs.inner.follow_in.Goals as goal
 
 -- the length n of the word, the numbers, and the piece that is next
@@ -38,7 +38,7 @@ module _ (w numbers : List ℕ) (turns n before k : ℕ) (turns_are : Turns turn
   inside = omega (arith, pair, length-ends_of_pairs numbers)
 
   end_is : end ≡ get_or (ends_of_pairs numbers) k 0
-  end_is = sym (end-given numbers k pair)
+  end_is = sym (end_given numbers k pair)
 
   -- the test of the end in terms of the word's length
   tested : (b : Bool) (r : Bool) → r ≡ bad_end? n before end → r ≡ b → bad_end? (length w) before end ≡ b
@@ -70,7 +70,7 @@ pub loop-k-init : goal.loop-k-init
 loop-k-init c =
     let g = c.args in
     let w = word_of g.wide g.bytes.now g.codes.now in
-    (omega arith, omega arith, omega arith, judged_first (segment? held_period g.turns w g.numbers.now) (length w) (ends_of_pairs g.numbers.now), none-noted _ _ _ refl)
+    (omega arith, omega arith, omega arith, judged_first (segment? held_period g.turns w g.numbers.now) (length w) (ends_of_pairs g.numbers.now), none_noted _ _ _ refl)
 
 pub returns-then-bad_end : goal.returns-then-bad_end
 returns-then-bad_end c =

@@ -9,13 +9,13 @@ use Rattle.periods.specs.Period.{part, smallest_period, held_period}
 use Rattle.periods.specs.Width.{word_of}
 use Rattle.periods.proofs.BlockUnit.{block_unit-of_block}
 use Rattle.runs.specs.Number.{run_number}
-use Rattle.factors.proofs.BlockByBlock.{of_blocks-length, Taken, none-taken, next_block, next_number, one_more_taken}
+use Rattle.factors.proofs.BlockByBlock.{of_blocks-length, Taken, none_taken, next_block, next_number, one_more_taken}
 use Rattle.repetitions.specs.Block.{Block}
 use Rattle.repetitions.proofs.Blocks.{block_unit_lem}
 use Rattle.paths.specs.LookUp.{Found}
 use Rattle.paths.specs.Calls.{run_numbers}
 use Rattle.paths.proofs.Latest.{block_latest}
-use Rattle.paths.proofs.Noting.{none-noted}
+use Rattle.paths.proofs.Noting.{none_noted}
 use Rattle.paths.proofs.NumberLaws.{written_more, written_all}
 use Rattle.paths.proofs.inner.numbers_in.Goals as goal
 
@@ -49,7 +49,7 @@ module _ (w ends lent table : List ℕ) (before k : ℕ) (places : length ends �
       written_all lent (run_numbers w 0 ends) room k table written (omega arith) (omega (arith, taken.within)) ∙ ap (λ (j : ℕ). run_numbers w 0 ends ++ drop j lent) m
 
 pub loop-k-init : goal.loop-k-init
-loop-k-init c = (none-taken c.requires.0.1, refl, none-noted _ _ _ refl)
+loop-k-init c = (none_taken c.requires.0.1, refl, none_noted _ _ _ refl)
 
 pub loop-k-preserved : goal.loop-k-preserved
 loop-k-preserved c =

@@ -15,8 +15,8 @@ use Rattle.periods.proofs.BlockUnit.{block_of_means, block_unit-found, block_uni
 use Rattle.periods.proofs.bytes.block_unit.Goals as goal
 
 -- the first number of which every pair agrees is the smallest period
-first-is-smallest : (s : List ℕ) (p : ℕ) → 1 ≤ p → p ≤ length s → ((i : ℕ) → i < length s - p → get_or s i 0 ≡ get_or s (i + p) 0) → ((q : ℕ) → q < p → Period s q → ⊥) → SmallestPeriod s p
-first-is-smallest s p a b same none = record { period = record { positive = a; fits = b; same = λ i l. same i (omega arith) }; least = λ q Q. least q Q (dec_lt q p) }
+first_is_smallest : (s : List ℕ) (p : ℕ) → 1 ≤ p → p ≤ length s → ((i : ℕ) → i < length s - p → get_or s i 0 ≡ get_or s (i + p) 0) → ((q : ℕ) → q < p → Period s q → ⊥) → SmallestPeriod s p
+first_is_smallest s p a b same none = record { period = record { positive = a; fits = b; same = λ i l. same i (omega arith) }; least = λ q Q. least q Q (dec_lt q p) }
   where
     least : (q : ℕ) → Period s q → Dec (q < p) → p ≤ q
     least q Q (yes l) = absurd (none q l Q)
@@ -38,4 +38,4 @@ pub returns-after-loop-i : goal.returns-after-loop-i
 returns-after-loop-i c =
     let e : block_of? c.args.turns (length c.args.part.now) (c.outer.p + 1) ≡ true = sym c.is_block_of.ensures ∙ c.if-not-is_block_of.false in
     let f = fits c.args.turns (length c.args.part.now) (c.outer.p + 1) c.requires e in
-    block_unit-found _ _ _ (first-is-smallest _ _ (omega arith) f.0 (λ k l. c.loop-i.invariant.1 k (omega arith)) c.outer.invariant.1) e
+    block_unit-found _ _ _ (first_is_smallest _ _ (omega arith) f.0 (λ k l. c.loop-i.invariant.1 k (omega arith)) c.outer.invariant.1) e

@@ -13,8 +13,8 @@ use Rattle.periods.proofs.PartClaims.{described_by, part_length, part-too_long, 
 use Rattle.periods.proofs.either.part.Goals as goal
 
 -- the unit of a part is at least 1 and at most its length
-unit-bounds : (w : List ℕ) (first last u : ℕ) → Within w first last → u ≡ smallest_period (part w (first - 1) last) → (1 ≤ u) × (u ≤ last - (first - 1))
-unit-bounds w first last u h e =
+unit_bounds : (w : List ℕ) (first last u : ℕ) → Within w first last → u ≡ smallest_period (part w (first - 1) last) → (1 ≤ u) × (u ≤ last - (first - 1))
+unit_bounds w first last u h e =
     let l = part_length w first last h in
     let S : SmallestPeriod (part w (first - 1) last) (smallest_period (part w (first - 1) last)) = smallest_period-is (part w (first - 1) last) (omega arith) in
     (omega (arith, S.period.positive), omega (arith, S.period.fits))
@@ -71,19 +71,19 @@ pub overflow_cast-result : goal.overflow_cast-result
 overflow_cast-result c =
     let g = c.args in
     let w : List ℕ = word_of g.wide g.bytes.now g.codes.now in
-    omega (arith, unit-bounds w g.first g.last c.units_of-unit.result (omega arith, omega arith, omega arith) c.units_of-unit.ensures.value)
+    omega (arith, unit_bounds w g.first g.last c.units_of-unit.result (omega arith, omega arith, omega arith) c.units_of-unit.ensures.value)
 
 pub nonzero_div-result : goal.nonzero_div-result
 nonzero_div-result c =
     let g = c.args in
     let w : List ℕ = word_of g.wide g.bytes.now g.codes.now in
-    omega (arith, unit-bounds w g.first g.last c.units_of-unit.result (omega arith, omega arith, omega arith) c.units_of-unit.ensures.value)
+    omega (arith, unit_bounds w g.first g.last c.units_of-unit.result (omega arith, omega arith, omega arith) c.units_of-unit.ensures.value)
 
 pub nonzero_rem-result : goal.nonzero_rem-result
 nonzero_rem-result c =
     let g = c.args in
     let w : List ℕ = word_of g.wide g.bytes.now g.codes.now in
-    omega (arith, unit-bounds w g.first g.last c.units_of-unit.result (omega arith, omega arith, omega arith) c.units_of-unit.ensures.value)
+    omega (arith, unit_bounds w g.first g.last c.units_of-unit.result (omega arith, omega arith, omega arith) c.units_of-unit.ensures.value)
 
 pub is_block_of-requires : goal.is_block_of-requires
 is_block_of-requires c = turns_given c.args.edition _ c.turns-turns.ensures

@@ -7,7 +7,7 @@ use lib.Dec.{T}
 use lib.ListN.{length, set, length-set}
 use Rattle.decimals.specs.Decimal.{digits?, field}
 use Rattle.plan_lines.specs.Line.{step, place_of_end, number_at}
-use Rattle.plan_lines.proofs.Loops.{end-inside, field-digits, end-stands, read_ends_none, read_ends_more}
+use Rattle.plan_lines.proofs.Loops.{end_inside, field-digits, end_stands, read_ends_none, read_ends_more}
 use Rattle.plan_lines.proofs.inner.read_ends.Goals as goal
 
 pub loop-k-init : goal.loop-k-init
@@ -18,11 +18,11 @@ number-requires c =
     let g = c.args in
     let k = c.loop-k.k in
     let b = c.bytes_for.ensures in
-    let inside : place_of_end g.width k + step g.width ≤ length g.s.now = omega (arith, end-inside g.width g.count k (omega arith), c.requires.0) in (
+    let inside : place_of_end g.width k + step g.width ≤ length g.s.now = omega (arith, end_inside g.width g.count k (omega arith), c.requires.0) in (
       omega (arith, b, inside),
       c.requires.1,
       subst (λ (at : ℕ). T (digits? (field g.s.now at g.width))) (sym b)
-          (field-digits g.width g.s.now (place_of_end g.width k) (end-stands g.width g.s.now g.count k c.requires.2 (omega arith))),
+          (field-digits g.width g.s.now (place_of_end g.width k) (end_stands g.width g.s.now g.count k c.requires.2 (omega arith))),
     )
 
 pub loop-k-preserved : goal.loop-k-preserved

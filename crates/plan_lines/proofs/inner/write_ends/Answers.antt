@@ -8,7 +8,7 @@ use lib.Seq.{sets}
 use Rattle.decimals.specs.Decimal.{comma, digits}
 use Rattle.decimals.proofs.Fields.{at_most_at}
 use Rattle.plan_lines.specs.Line.{greatest, step, place_of_end}
-use Rattle.plan_lines.proofs.Loops.{end-inside, write_ends_more}
+use Rattle.plan_lines.proofs.Loops.{end_inside, write_ends_more}
 use Rattle.plan_lines.proofs.inner.write_ends.Goals as goal
 
 pub write_field-requires : goal.write_field-requires
@@ -16,7 +16,7 @@ write_field-requires c =
     let g = c.args in
     let k = c.loop-k.k in
     let b = c.bytes_for.ensures in
-    let inside : place_of_end g.width k + step g.width ≤ length g.out.now = omega (arith, end-inside g.width (length g.ends.now) k (omega arith), c.requires.0) in
+    let inside : place_of_end g.width k + step g.width ≤ length g.out.now = omega (arith, end_inside g.width (length g.ends.now) k (omega arith), c.requires.0) in
     (omega (arith, b), omega (arith, b, inside), c.requires.1, at_most_at (greatest g.width) g.ends.now k c.requires.2 (omega arith))
 
 pub loop-k-preserved : goal.loop-k-preserved

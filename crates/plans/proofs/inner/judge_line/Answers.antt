@@ -10,14 +10,14 @@ use Rattle.decimals.specs.Decimal.{digits?, field}
 use Rattle.factors.specs.Verdict.{bad_end?}
 use Rattle.factors.proofs.Judging.{end_fits, judged_bad_end, judged_block, judged_unfinished, judged_finished}
 use Rattle.plan_lines.specs.Line.{step, place_of_end, number_at, ends_in}
-use Rattle.plan_lines.proofs.Loops.{end-inside, field-digits, ends_length, end-at, end-stands}
+use Rattle.plan_lines.proofs.Loops.{end_inside, field-digits, ends_length, end_at, end_stands}
 use Rattle.plans.specs.Calls.{any_piece}
 use Rattle.plans.proofs.Judged.{judge_too_long, judge_first}
 use Rattle.plans.proofs.inner.judge_line.Goals as goal
 
 -- the number that was read is the end
 read_end : (d : ℕ) (s : List ℕ) (count k at x : ℕ) → at ≡ place_of_end d k → x ≡ number_at d s at → k < count → x ≡ get_or (ends_in d s count) k 0
-read_end d s count k at x e f h = f ∙ ap (number_at d s) e ∙ sym (end-at d s count k h)
+read_end d s count k at x e f h = f ∙ ap (number_at d s) e ∙ sym (end_at d s count k h)
 
 inside : (d : ℕ) (s : List ℕ) (count k : ℕ) → k < count → k < length (ends_in d s count)
 inside d s count k h = omega (arith, ends_length d s count)
@@ -33,11 +33,11 @@ number-end-requires c =
     let g = c.args in
     let k = c.loop-k.k in
     let b = c.bytes_for-at.ensures in
-    let stands : place_of_end g.width k + step g.width ≤ length g.s.now = omega (arith, end-inside g.width g.count k (omega arith), c.requires.0) in (
+    let stands : place_of_end g.width k + step g.width ≤ length g.s.now = omega (arith, end_inside g.width g.count k (omega arith), c.requires.0) in (
       omega (arith, b, stands),
       c.requires.1,
       subst (λ (at : ℕ). T (digits? (field g.s.now at g.width))) (sym b)
-          (field-digits g.width g.s.now (place_of_end g.width k) (end-stands g.width g.s.now g.count k c.requires.2 (omega arith))),
+          (field-digits g.width g.s.now (place_of_end g.width k) (end_stands g.width g.s.now g.count k c.requires.2 (omega arith))),
     )
 
 pub returns-then-bad_end : goal.returns-then-bad_end

@@ -9,7 +9,7 @@ use Rattle.periods.specs.Period.{held_period}
 use Rattle.factors.proofs.BlockByBlock.{next_block, one_more_taken, text_more, text_done}
 use Rattle.repetitions.proofs.Blocks.{block_up, edition_half}
 use Rattle.report.specs.Text.{printed_edition, printed_turns, block_line, block_lines}
-use Rattle.writers.proofs.Stores.{stored, stored_length, ensured, left_as, left_less, left-none}
+use Rattle.writers.proofs.Stores.{stored, stored_length, ensured, left_as, left_less, left_none}
 use Rattle.report.proofs.Lines.{block_lines-long}
 use Rattle.report.proofs.inner.block_lines.Goals as goal
 
@@ -42,5 +42,5 @@ pub returns : goal.returns
 returns c =
     let g = c.args in
     let l = c.loop-k in
-    let r = ensured (left-none (left_as [] (text_done (block_line g.w.now) g.ends.now l.k l.before (omega arith)) l.invariant.3)) in
+    let r = ensured (left_none (left_as [] (text_done (block_line g.w.now) g.ends.now l.k l.before (omega arith)) l.invariant.3)) in
     record { value = r.0; out_after = r.1 }

@@ -13,7 +13,7 @@ use Rattle.finder.specs.Find.{record_limit}
 use Rattle.report.specs.Text.{passes_name, fewest_name, most_name, run_lines, split_text, text}
 use Rattle.report.specs.Records.{RunsHeld, RunsListed, run_bytes}
 use Rattle.writers.specs.Line.{line}
-use Rattle.writers.proofs.Stores.{stored, stored_as, left-all, left_less, left-last, line-long}
+use Rattle.writers.proofs.Stores.{stored, stored_as, left_all, left_less, left_last, line-long}
 use Rattle.report.proofs.Lines.{run_lines-long}
 use Rattle.report.proofs.Splits.{text_is, split_long}
 use Rattle.report.proofs.Reports.{records_suffice}
@@ -71,9 +71,9 @@ returns c =
     let F = split_text w 1 fewest_name in
     let R = run_lines 0 (runs_of w) in
     let A = line passes_name (length w ∷ []) in
-    let one = left_less (R ++ (F ++ M)) (left-all g.out.now 0 (text w) (A ++ (R ++ (F ++ M))) (text_is w c.requires.0)) (stored g.out.now 0 A _ _ (a.ensures.value, a.ensures.out_after)) in
+    let one = left_less (R ++ (F ++ M)) (left_all g.out.now 0 (text w) (A ++ (R ++ (F ++ M))) (text_is w c.requires.0)) (stored g.out.now 0 A _ _ (a.ensures.value, a.ensures.out_after)) in
     let rows = stored a.new.out a.result (run_lines 0 (records g.count g.table.now)) r.new.out r.result (r.ensures.value, r.ensures.out_after) in
     let two = left_less (F ++ M) one (stored_as R (ap (run_lines 0) c.requires.2) rows) in
     let three = left_less M two (stored r.new.out r.result F f.new.out f.result (f.ensures.value, f.ensures.out_after)) in
-    let S = left-last three (stored f.new.out f.result M _ _ (m.ensures.value, m.ensures.out_after)) in
+    let S = left_last three (stored f.new.out f.result M _ _ (m.ensures.value, m.ensures.out_after)) in
     record { value = S.place ∙ zero-add (length (text w)); out_after = S.bytes }

@@ -24,23 +24,23 @@ module _ (x : Choice) (w runs t s z : List ℕ) (n : ℕ) (is : n ≡ length w) 
   found : Tabled w runs
   found = tabled w runs I
 
-  begun-by : lent s (n + 1) (second n) z ≡ begun w t
-  begun-by = rw is (begun_from w t s z (rw is at f) (rw is at g))
+  begun_by : lent s (n + 1) (second n) z ≡ begun w t
+  begun_by = rw is (begun_from w t s z (rw is at f) (rw is at g))
 
   starts : Ready x w runs 1 1 0 (lent s (n + 1) (second n) z)
-  starts = subst (Ready x w runs 1 1 0) (sym begun-by) (ready_starts x w runs t found W.1)
+  starts = subst (Ready x w runs 1 1 0) (sym begun_by) (ready_starts x w runs t found W.1)
 
   module _ (u : List ℕ) (K : RestKept (length w) (lent s (n + 1) (second n) z) u) where
     kept : RestKept (length w) t u
-    kept = let B : RestKept (length w) t (lent s (n + 1) (second n) z) = subst (RestKept (length w) t) (sym begun-by) (begun_kept w t W.1) in (K.0 ∙ B.0, K.1 ∙ B.1)
+    kept = let B : RestKept (length w) t (lent s (n + 1) (second n) z) = subst (RestKept (length w) t) (sym begun_by) (begun_kept w t W.1) in (K.0 ∙ B.0, K.1 ∙ B.1)
 
     -- the runs that were admitted
     module _ (e next lives count r : ℕ) (v : List ℕ) (many : count ≡ length (runs_of w)) (A : Admitted runs count e next r) (D : Added n lives next r u v) where
       workable : Workable w v
       workable = (W.0, omega (arith, W.1, kept.0, D.long))
 
-      few-lives : lives ≤ next → lives + (r - next) ≤ length w
-      few-lives l = omega (arith, A.low, A.high, found.few)
+      few_lives : lives ≤ next → lives + (r - next) ≤ length w
+      few_lives l = omega (arith, A.low, A.high, found.few)
 
       ready : e ≤ length w → ((i : ℕ) → i < next → (record_at runs i).first < e) → Ready x w runs e e lives u → Ready x w runs (e + 1) e (lives + (r - next)) v
       ready h before S = admitted_ready x w runs found e next r lives u v h before (rw many at A) (rw is at D) S
@@ -82,7 +82,7 @@ visit-lives-requires-clause-workable c =
       c.requires.1,
       c.loop-e.invariant.0,
       omega arith,
-      few-lives (choice_of c.args.choice) _ _ _ _ _ _ c.length-n.ensures c.requires.0 c.requires.1 c.start.ensures c.clear.ensures _ c.loop-e.invariant.6 _ _ _ _ _ _ c.requires.2 a.admitted a.added
+      few_lives (choice_of c.args.choice) _ _ _ _ _ _ c.length-n.ensures c.requires.0 c.requires.1 c.start.ensures c.clear.ensures _ c.loop-e.invariant.6 _ _ _ _ _ _ c.requires.2 a.admitted a.added
           c.loop-e.invariant.3,
     )
 

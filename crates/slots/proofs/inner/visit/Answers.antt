@@ -26,15 +26,15 @@ module _ (x : Choice) (w runs t : List ℕ) (n e lives : ℕ) (is : n ≡ length
   found = tabled w runs I
 
   module _ (u : List ℕ) (k kept best : ℕ) (U : Turn x w runs e lives t u k kept k best) where
-    best-small : best ≤ e
-    best-small = best_bound x w runs found e some inside lives few t W.1 S u k kept k best U
+    best_small : best ≤ e
+    best_small = best_bound x w runs found e some inside lives few t W.1 S u k kept k best U
 
     module _ (h : k < lives) (r : Record) (q : r ≡ record_at runs (get_or u (list_row n + k) 0)) where
       row_is : r ≡ record_at runs (get_or u (list_row (length w) + k) 0)
       row_is = rw is at q
 
-      run-numbers : Numbers w e r
-      run-numbers = numbers x w runs found e some inside lives few t W.1 S u k kept best U h r row_is
+      run_numbers : Numbers w e r
+      run_numbers = numbers x w runs found e some inside lives few t W.1 S u k kept best U h r row_is
 
       over : r.last < e → Turn x w runs e lives t u (k + 1) kept (k + 1) best
       over l = step-over x w runs found e some inside lives few t W.1 S u k kept best U h r row_is l
@@ -47,7 +47,7 @@ module _ (x : Choice) (w runs t : List ℕ) (n e lives : ℕ) (is : n ≡ length
 
       in_run : InRun n (r.first - 1) (2 * r.period) e (set u (list_row n + kept) (get_or u (list_row n + k) 0))
       in_run =
-          let N = run-numbers in (
+          let N = run_numbers in (
             omega (arith, W.0),
             omega (arith, N.unit),
             omega (arith, N.small),
@@ -64,14 +64,14 @@ module _ (x : Choice) (w runs t : List ℕ) (n e lives : ℕ) (is : n ≡ length
       all-taken : Turn x w runs e lives t u lives kept lives best
       all-taken = let z : k ≡ lives = omega arith in subst (λ (y : ℕ). Turn x w runs e lives t u y kept y best) z U
 
-      none-offered : get_or u best 0 ≡ none → (kept ≤ lives) × Ready x w runs (e + 1) (e + 1) kept u
-      none-offered z = (omega (arith, U.listing.fewer), taken_none x w runs found W.0 e some inside lives t S u kept best all-taken best-small z)
+      none_offered : get_or u best 0 ≡ none → (kept ≤ lives) × Ready x w runs (e + 1) (e + 1) kept u
+      none_offered z = (omega (arith, U.listing.fewer), taken_none x w runs found W.0 e some inside lives t S u kept best all-taken best_small z)
 
       one_offered : (get_or u best 0 ≡ none → ⊥) → (v : List ℕ) → v ≡ offered x e (n + 1 + e) (get_or u best 0 + 1) best u
           → (kept ≤ lives) × Ready x w runs (e + 1) (e + 1) kept v
       one_offered ne v f = (
         omega (arith, U.listing.fewer),
-        taken_reached x w runs found W.0 e some inside lives t S u kept best all-taken best-small (omega (arith, W.1, U.rest.0)) ne v (rw is at f),
+        taken_reached x w runs found W.0 e some inside lives t S u kept best all-taken best_small (omega (arith, W.1, U.rest.0)) ne v (rw is at f),
       )
 
       rest_after : (v : List ℕ) → v ≡ offered x e (n + 1 + e) (get_or u best 0 + 1) best u → RestKept (length w) t v
@@ -89,13 +89,13 @@ loop-k-preserved-then-run-e c =
 pub overflow_sub-a : goal.overflow_sub-a
 overflow_sub-a c =
     let (W, I, s, i, f) = c.requires.workable in
-    (run-numbers _ _ _ _ _ _ _ c.length-n.ensures W I s i f c.requires.ready _ _ _ _ c.loop-k.invariant.1 c.loop-k-test.true _ c.row-run.ensures).starts
+    (run_numbers _ _ _ _ _ _ _ c.length-n.ensures W I s i f c.requires.ready _ _ _ _ c.loop-k.invariant.1 c.loop-k-test.true _ c.row-run.ensures).starts
 
 pub take-best-requires : goal.take-best-requires
 take-best-requires c =
     let (W, I, s, i, f) = c.requires.workable in (
       in_run _ _ _ _ _ _ _ c.length-n.ensures W I s i f c.requires.ready _ _ _ _ c.loop-k.invariant.1 c.loop-k-test.true _ c.row-run.ensures,
-      omega (arith, best-small _ _ _ _ _ _ _ c.length-n.ensures W I s i f c.requires.ready _ _ _ _ c.loop-k.invariant.1),
+      omega (arith, best_small _ _ _ _ _ _ _ c.length-n.ensures W I s i f c.requires.ready _ _ _ _ c.loop-k.invariant.1),
       reads _ _ _ _ _ _ _ c.length-n.ensures W I s i f c.requires.ready _ _ _ _ c.loop-k.invariant.1 c.loop-k-test.true _ c.row-run.ensures c.if-run-e.false,
     )
 
@@ -110,17 +110,17 @@ loop-k-preserved c =
 pub offset_bounds-work-best : goal.offset_bounds-work-best
 offset_bounds-work-best c =
     let (W, I, s, i, f) = c.requires.workable in
-    omega (arith, W.0, best-small _ _ _ _ _ _ _ c.length-n.ensures W I s i f c.requires.ready _ _ _ _ c.loop-k.invariant.1)
+    omega (arith, W.0, best_small _ _ _ _ _ _ _ c.length-n.ensures W I s i f c.requires.ready _ _ _ _ c.loop-k.invariant.1)
 
 pub bounds-work-best : goal.bounds-work-best
 bounds-work-best c =
     let (W, I, s, i, f) = c.requires.workable in
-    omega (arith, W.1, c.loop-k.invariant.1.rest.0, best-small _ _ _ _ _ _ _ c.length-n.ensures W I s i f c.requires.ready _ _ _ _ c.loop-k.invariant.1)
+    omega (arith, W.1, c.loop-k.invariant.1.rest.0, best_small _ _ _ _ _ _ _ c.length-n.ensures W I s i f c.requires.ready _ _ _ _ c.loop-k.invariant.1)
 
 pub overflow_cast-best : goal.overflow_cast-best
 overflow_cast-best c =
     let (W, I, s, i, f) = c.requires.workable in
-    omega (arith, W.0, best-small _ _ _ _ _ _ _ c.length-n.ensures W I s i f c.requires.ready _ _ _ _ c.loop-k.invariant.1)
+    omega (arith, W.0, best_small _ _ _ _ _ _ _ c.length-n.ensures W I s i f c.requires.ready _ _ _ _ c.loop-k.invariant.1)
 
 pub returns-then-size-clause-upper_bound : goal.returns-then-size-clause-upper_bound
 returns-then-size-clause-upper_bound c =
@@ -135,4 +135,4 @@ returns-then-size-clause-rest_kept c =
 pub returns-else-size-clause-upper_bound : goal.returns-else-size-clause-upper_bound
 returns-else-size-clause-upper_bound c =
     let (W, I, s, i, f) = c.requires.workable in
-    none-offered _ _ _ _ _ _ _ c.length-n.ensures W I s i f c.requires.ready _ _ _ _ c.loop-k.invariant.1 c.loop-k-test.false c.loop-k.invariant.0 c.if-size.false
+    none_offered _ _ _ _ _ _ _ c.length-n.ensures W I s i f c.requires.ready _ _ _ _ c.loop-k.invariant.1 c.loop-k-test.false c.loop-k.invariant.0 c.if-size.false

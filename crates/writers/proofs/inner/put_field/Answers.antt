@@ -6,7 +6,7 @@ use native.Mathlib.Omega.{arith}
 use lib.ListN.{take, replicate}
 use Rattle.decimals.specs.Decimal.{comma, plain, digits}
 use Rattle.decimals.proofs.Fields.{count_most, counted_fits}
-use Rattle.writers.proofs.Stores.{stored, stored_as, left-all, left_less, left-last, digits-front}
+use Rattle.writers.proofs.Stores.{stored, stored_as, left_all, left_less, left_last, digits-front}
 use Rattle.writers.proofs.inner.put_field.Goals as goal
 
 pub write-requires : goal.write-requires
@@ -23,6 +23,6 @@ returns c =
     let next = c.put_byte-next in
     let e : take (n.result - 0) d.new.out ≡ plain g.x =
     digits-front (replicate 10 0) d.new.out n.result g.x (omega (arith, n.ensures, count_most 9 g.x)) d.ensures ∙ ap (λ (k : ℕ). digits k g.x) n.ensures in
-    let begun = left_less (plain g.x) (left-all g.out.now g.at (comma ∷ plain g.x) ((comma ∷ []) ++ plain g.x) refl) (stored g.out.now g.at (comma ∷ []) _ _ (next.ensures.value, next.ensures.out_after)) in
-    let all = left-last begun (stored_as (plain g.x) e (stored next.new.out next.result (take (n.result - 0) d.new.out) _ _ (c.put_text.ensures.value, c.put_text.ensures.out_after))) in
+    let begun = left_less (plain g.x) (left_all g.out.now g.at (comma ∷ plain g.x) ((comma ∷ []) ++ plain g.x) refl) (stored g.out.now g.at (comma ∷ []) _ _ (next.ensures.value, next.ensures.out_after)) in
+    let all = left_last begun (stored_as (plain g.x) e (stored next.new.out next.result (take (n.result - 0) d.new.out) _ _ (c.put_text.ensures.value, c.put_text.ensures.out_after))) in
     record { value = all.place; out_after = all.bytes }
