@@ -1,14 +1,14 @@
 -- What the loops of this crate keep, and that each step keeps it: bytes that are stored from a place on, a prefix that is compared, ends that are judged,
 -- tested and read one after another. Assumes nothing.
 use mathlib.Core.Path.{◌≡◌, refl, sym, ap, ◌∙◌, subst}
-use mathlib.Core.Bool.{Bool, true, false}
+use mathlib.Core.Bool.{Bool, true, false, not}
 use mathlib.Core.List.{List, [], ◌∷◌, ◌++◌, append-nil, append_assoc}
 use Prim.Native.Nat.{ℕ, zero, suc, ◌+◌, ◌-◌, ◌*◌, ◌^◌, ◌≤◌, ◌<◌}
 use native.Mathlib.Omega.{arith}
 use native.Mathlib.Decide.{ℕ_discrete}
 use native.Mathlib.Nat.{mul-zero, mul-suc, mul-le-mul_left, mul-le-mul_right, pow-le-pow_right}
 use native.Mathlib.Numerals.{add-one}
-use borrow.Author.Tests.{eq-eqb, ne_eqb}
+use borrow.Author.Tests.{eq-eqb, ne_eqb, not-true, not-false}
 use lib.Dec.{T, eqb, eqb→eq}
 use lib.ListN.{length, get_or, set, take, drop, length-append, drop_of_length-le, get_or-append}
 use lib.Seq.{sets, take-suc, drop-cons, set_at, append_snoc, length-take-le, get_or_at}
@@ -18,6 +18,14 @@ use Rattle.decimals.specs.Decimal.{comma, line_end, digits, digits?, field}
 use Rattle.decimals.proofs.Claims.{digits-length}
 use Rattle.decimals.proofs.Loops.{power-positive}
 use Rattle.plan_lines.specs.Line.{prefix_of, width_of, widest, greatest, fields, line, starts_with, step, place_of_length, place_of_count, place_of_end, bytes_for, number_at, field?, ends?, ends_in}
+
+-- ---- a test that another function made
+
+pub said_yes : {t x : Bool} → t ≡ x → not t ≡ false → T x
+said_yes {t} e n = subst T (sym (not-false t n) ∙ e) tt
+
+pub said_no : {t x : Bool} → t ≡ x → not t ≡ true → x ≡ false
+said_no {t} e n = sym e ∙ not-true t n
 
 -- ---- bytes that are stored
 
