@@ -44,8 +44,8 @@ with_code_lem NotPlan = refl
 with_code_lem BadEdition = refl
 
 -- a refusal is determined by what it returns
-pub refusal-injective : (r s : Refusal) → refusal r ≡ refusal s → r ≡ s
-refusal-injective r s e =
+pub refusal_injective : (r s : Refusal) → refusal r ≡ refusal s → r ≡ s
+refusal_injective r s e =
     let n : (code_of r).0 ≡ (code_of s).0 = cc in
     let i : (code_of r).1 ≡ (code_of s).1 = cc in
     sym (with_code_lem r) ∙ ap₂ with_code n i ∙ with_code_lem s
@@ -111,4 +111,4 @@ pub counted_injective : (x y : Counted) → counted_view x ≡ counted_view y �
 counted_injective (Count m) (Count n) e = let f : m ≡ n = cc in ap Count f
 counted_injective (Count m) (Refused s) e = absurd (refused_accepted (refusal s) (code_of s).0 (code_of s).1 (m ∷ []) refl (sym e))
 counted_injective (Refused r) (Count n) e = absurd (refused_accepted (refusal r) (code_of r).0 (code_of r).1 (n ∷ []) refl e)
-counted_injective (Refused r) (Refused s) e = ap Refused (refusal-injective r s e)
+counted_injective (Refused r) (Refused s) e = ap Refused (refusal_injective r s e)

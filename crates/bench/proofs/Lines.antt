@@ -17,23 +17,23 @@ use Rattle.bench.specs.Line.{line_length}
 
 module _ (s : List ℕ) (i : ℕ) where
   -- byte 10 stands here
-  pub line-here : i < length s → get_or s i 0 ≡ line_end → line_length (drop i s) ≡ 0
+  pub line_here : i < length s → get_or s i 0 ≡ line_end → line_length (drop i s) ≡ 0
   unfolding line_length
-  line-here h e = ap line_length (drop-cons s i 0 h) ∙ rw (eq-eqb (get_or s i 0) line_end e) refl
+  line_here h e = ap line_length (drop-cons s i 0 h) ∙ rw (eq-eqb (get_or s i 0) line_end e) refl
 
   -- another byte stands here
-  pub line-more : i < length s → get_or s i 0 ≢ line_end → line_length (drop i s) ≡ suc (line_length (drop (i + 1) s))
+  pub line_more : i < length s → get_or s i 0 ≢ line_end → line_length (drop i s) ≡ suc (line_length (drop (i + 1) s))
   unfolding line_length
-  line-more h e = ap line_length (drop-cons s i 0 h) ∙ rw (ne_eqb (get_or s i 0) line_end e, add-one i) refl
+  line_more h e = ap line_length (drop-cons s i 0 h) ∙ rw (ne_eqb (get_or s i 0) line_end e, add-one i) refl
 
   -- no byte is left
-  pub line-over : length s ≤ i → line_length (drop i s) ≡ 0
+  pub line_over : length s ≤ i → line_length (drop i s) ≡ 0
   unfolding line_length
-  line-over h = rw (drop_of_length-le s {i = i} h) refl
+  line_over h = rw (drop_of_length-le s {i = i} h) refl
 
 -- bytes with another part between a and b are as many
-pub part-read : (t new : List ℕ) (a b : ℕ) → a ≤ b → b ≤ length t → length new ≡ length (take (b - a) (drop a t)) → length (take a t ++ (new ++ drop (b - a) (drop a t))) ≡ length t
-part-read t new a b h k e =
+pub part_read : (t new : List ℕ) (a b : ℕ) → a ≤ b → b ≤ length t → length new ≡ length (take (b - a) (drop a t)) → length (take a t ++ (new ++ drop (b - a) (drop a t))) ≡ length t
+part_read t new a b h k e =
     omega (
       arith,
       length-append (take a t) (new ++ drop (b - a) (drop a t)),
@@ -46,10 +46,10 @@ part-read t new a b h k e =
 
 -- ---- the line in a buffer
 
-line-at_most : (s : List ℕ) → line_length s ≤ length s
+line_at_most : (s : List ℕ) → line_length s ≤ length s
 unfolding line_length
-line-at_most [] = omega arith
-line-at_most (b ∷ bs) = go (eqb b line_end) (line-at_most bs)
+line_at_most [] = omega arith
+line_at_most (b ∷ bs) = go (eqb b line_end) (line_at_most bs)
   where
     go : (u : Bool) → line_length bs ≤ length bs → cond u 0 (suc (line_length bs)) ≤ suc (length bs)
     go true h = omega arith
@@ -89,8 +89,8 @@ module _ (b : List ℕ) (a e x : ℕ) (low : a ≤ e) (high : e ≤ length b) (c
   from_front t = line-append (take a b) t (clear ∙ sym front_long) ∙ ap (λ (k : ℕ). k + line_length t) front_long
 
   -- byte 10 stands in the piece
-  pub line-ended : a + x < e → line_length b ≡ a + x
-  line-ended h =
+  pub line_ended : a + x < e → line_length b ≡ a + x
+  line_ended h =
       ap line_length (sym (take-append-drop a b)) ∙ from_front (drop a b)
       ∙ ap (λ (k : ℕ). a + k)
       (ap line_length (sym (take-append-drop (e - a) (drop a b))) ∙ line-front (take (e - a) (drop a b)) (drop (e - a) (drop a b)) (omega (arith, piece_long)) ∙ sym is)
@@ -100,4 +100,4 @@ module _ (b : List ℕ) (a e x : ℕ) (low : a ≤ e) (high : e ≤ length b) (c
   line-goes_on h =
       let k : a + (e - a) ≡ e = omega arith in
       ap (λ (n : ℕ). line_length (take n b)) (sym k) ∙ ap line_length (take-add a (e - a) b) ∙ from_front (take (e - a) (drop a b))
-      ∙ omega (arith, line-at_most (take (e - a) (drop a b)), piece_long)
+      ∙ omega (arith, line_at_most (take (e - a) (drop a b)), piece_long)

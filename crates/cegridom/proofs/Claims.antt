@@ -11,11 +11,11 @@ use Rattle.answers.proofs.Claims.{number_range, counted_injective}
 use Rattle.periods.specs.declared.PartAnswer.{PartAnswer}
 use Rattle.periods.specs.declared.PartAnswer.TheVariants.{Described}
 use Rattle.periods.specs.Part.{part_view}
-use Rattle.periods.proofs.PartClaims.{part-view-injective}
+use Rattle.periods.proofs.PartClaims.{part-view_injective}
 use Rattle.plans.specs.declared.PlanAnswer.{PlanAnswer}
 use Rattle.plans.specs.declared.PlanAnswer.TheVariants.{Plan}
 use Rattle.plans.specs.Calls.{plan_view}
-use Rattle.plans.proofs.CallClaims.{plan_view-injective}
+use Rattle.plans.proofs.CallClaims.{plan_view_injective}
 use Rattle.cegridom.specs.Export.{result_of, index_of, value_of}
 
 -- accepted with so many values, or refused with a number from 1
@@ -38,9 +38,9 @@ pub counted_has : (a : Counted) → HasValues 1 (counted_view a)
 counted_has (Count n) = refl
 counted_has (Refused r) = (number_range r).0
 
-pub part-has : (a : PartAnswer) → HasValues 4 (part_view a)
-part-has (Described d) = refl
-part-has (PartAnswer.Refused r) = (number_range r).0
+pub part_has : (a : PartAnswer) → HasValues 4 (part_view a)
+part_has (Described d) = refl
+part_has (PartAnswer.Refused r) = (number_range r).0
 
 pub plan_has : (a : PlanAnswer) → HasValues 2 (plan_view a)
 plan_has (Plan n k) = refl
@@ -57,9 +57,9 @@ counted_handed_over a b r i h =
 pub part-handed_over :
     (a b : PartAnswer) → result_of (part_view a) ≡ result_of (part_view b) → index_of (part_view a) ≡ index_of (part_view b)
     → ((j : ℕ) → j < 4 → value_of j (part_view a) ≡ value_of j (part_view b)) → a ≡ b
-part-handed_over a b r i h = part-view-injective a b (handed_over_determines 4 (part_view a) (part_view b) (part-has a) (part-has b) r i h)
+part-handed_over a b r i h = part-view_injective a b (handed_over_determines 4 (part_view a) (part_view b) (part_has a) (part_has b) r i h)
 
 pub plan_handed_over :
     (a b : PlanAnswer) → result_of (plan_view a) ≡ result_of (plan_view b) → index_of (plan_view a) ≡ index_of (plan_view b)
     → ((j : ℕ) → j < 2 → value_of j (plan_view a) ≡ value_of j (plan_view b)) → a ≡ b
-plan_handed_over a b r i h = plan_view-injective a b (handed_over_determines 2 (plan_view a) (plan_view b) (plan_has a) (plan_has b) r i h)
+plan_handed_over a b r i h = plan_view_injective a b (handed_over_determines 2 (plan_view a) (plan_view b) (plan_has a) (plan_has b) r i h)

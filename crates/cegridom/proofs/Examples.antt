@@ -17,13 +17,13 @@ use Rattle.cegridom.specs.Export.{result_of, index_of, value_of, version}
 use Rattle.periods.proofs.Words.{word_aaaa, word_aabaabaa, word_ab, word_ababa}
 
 -- "ababa * | 5 (unit 2, turns 2, rest 1)": accepted, with four values
-pub part-result : result_of (part_outcome word_ababa 1 1 5 5) ∷ index_of (part_outcome word_ababa 1 1 5 5) ∷ [] ≡ 0 ∷ 0 ∷ []
+pub part_result : result_of (part_outcome word_ababa 1 1 5 5) ∷ index_of (part_outcome word_ababa 1 1 5 5) ∷ [] ≡ 0 ∷ 0 ∷ []
 unfolding part_outcome description repetition? smallest_period bad_edition? turns_of
-part-result = refl
+part_result = refl
 
-pub part-values : value_of 0 (part_outcome word_ababa 1 1 5 5) ∷ value_of 1 (part_outcome word_ababa 1 1 5 5) ∷ value_of 2 (part_outcome word_ababa 1 1 5 5) ∷ value_of 3 (part_outcome word_ababa 1 1 5 5) ∷ [] ≡ 2 ∷ 2 ∷ 1 ∷ 1 ∷ []
+pub part_values : value_of 0 (part_outcome word_ababa 1 1 5 5) ∷ value_of 1 (part_outcome word_ababa 1 1 5 5) ∷ value_of 2 (part_outcome word_ababa 1 1 5 5) ∷ value_of 3 (part_outcome word_ababa 1 1 5 5) ∷ [] ≡ 2 ∷ 2 ∷ 1 ∷ 1 ∷ []
 unfolding part_outcome description repetition? smallest_period bad_edition? turns_of
-part-values = refl
+part_values = refl
 
 -- "2,2,8 gives 3 at index 2", and no number of blocks
 pub judged_2_2_8 : result_of (split_outcome word_aabaabaa 1 (2 ∷ 2 ∷ 8 ∷ [])) ∷ index_of (split_outcome word_aabaabaa 1 (2 ∷ 2 ∷ 8 ∷ [])) ∷ value_of 0 (split_outcome word_aabaabaa 1 (2 ∷ 2 ∷ 8 ∷ [])) ∷ [] ≡ 3 ∷ 2 ∷ 0 ∷ []
@@ -36,9 +36,9 @@ unfolding part_outcome bad_edition?
 edition_3_result = refl
 
 -- "7 can now come from the part call, after 6": no value, no index
-pub part-a_place_short : result_of (part_outcome word_ababa 1 1 5 4) ∷ index_of (part_outcome word_ababa 1 1 5 4) ∷ value_of 0 (part_outcome word_ababa 1 1 5 4) ∷ [] ≡ 7 ∷ 0 ∷ 0 ∷ []
+pub part_a_place_short : result_of (part_outcome word_ababa 1 1 5 4) ∷ index_of (part_outcome word_ababa 1 1 5 4) ∷ value_of 0 (part_outcome word_ababa 1 1 5 4) ∷ [] ≡ 7 ∷ 0 ∷ 0 ∷ []
 unfolding part_outcome bad_edition?
-part-a_place_short = refl
+part_a_place_short = refl
 
 -- "one call answers 1 or 2": accepted, with the number of the word; 2 without one
 pub which_result : result_of (which_outcome word_ab word_ababa 1 24) ∷ value_of 0 (which_outcome word_ab word_ababa 1 24) ∷ index_of (which_outcome word_ab word_ababa 1 24) ∷ [] ≡ 0 ∷ 2 ∷ 0 ∷ []

@@ -26,12 +26,12 @@ use Rattle.cegridom.proofs.Claims.{HasValues}
 known : (k : ℕ) (o x : Outcome) → o ≡ x → HasValues k x → HasValues k o
 known k o x e h = subst (HasValues k) (sym e) h
 
-pub part-values : (w : List ℕ) (edition first last : ℕ) (t : List ℕ) (o : Outcome) (x : List ℕ) → PartMeaning w edition first last t o x → HasValues 4 o
-part-values w edition first last t o x (PartMeaning.too_long a e k) = known 4 o (refused 1 0) e (lit≤ tt)
-part-values w edition first last t o x (PartMeaning.bad_edition a i e k) = known 4 o (refused 12 0) e (lit≤ tt)
-part-values w edition first last t o x (PartMeaning.outside a i b e k) = known 4 o (refused 6 0) e (lit≤ tt)
-part-values w edition first last t o x (PartMeaning.too_few a i b l e k) = known 4 o (refused 7 0) e (lit≤ tt)
-part-values w edition first last t o x (PartMeaning.described a i b l u q r f d e g) = known 4 o _ e refl
+pub part_values : (w : List ℕ) (edition first last : ℕ) (t : List ℕ) (o : Outcome) (x : List ℕ) → PartMeaning w edition first last t o x → HasValues 4 o
+part_values w edition first last t o x (PartMeaning.too_long a e k) = known 4 o (refused 1 0) e (lit≤ tt)
+part_values w edition first last t o x (PartMeaning.bad_edition a i e k) = known 4 o (refused 12 0) e (lit≤ tt)
+part_values w edition first last t o x (PartMeaning.outside a i b e k) = known 4 o (refused 6 0) e (lit≤ tt)
+part_values w edition first last t o x (PartMeaning.too_few a i b l e k) = known 4 o (refused 7 0) e (lit≤ tt)
+part_values w edition first last t o x (PartMeaning.described a i b l u q r f d e g) = known 4 o _ e refl
 
 pub runs_values : (w t : List ℕ) (o : Outcome) (u : List ℕ) → RunsMeaning w t o u → HasValues 1 o
 runs_values w t o u (RunsMeaning.too_long a e k) = known 1 o (refused 1 0) e (lit≤ tt)
@@ -64,16 +64,16 @@ pub squares_values : (w : List ℕ) (choice : ℕ) (e t : List ℕ) (o : Outcome
 squares_values w choice e t o x y (SquaresMeaning.too_long a p k l) = known 1 o (refused 1 0) p (lit≤ tt)
 squares_values w choice e t o x y (SquaresMeaning.chosen a c) = chosen_values _ w choice e t o x y c
 
-compared-values : (k : ℕ) (a b : List ℕ) (o : Outcome) → Compared k a b o → HasValues 1 o
-compared-values k a b o (Compared.neither m n e) = known 1 o (refused 2 0) e (lit≤ tt)
-compared-values k a b o (Compared.first_wins l e) = known 1 o _ e refl
-compared-values k a b o (Compared.second_wins l e) = known 1 o _ e refl
+compared_values : (k : ℕ) (a b : List ℕ) (o : Outcome) → Compared k a b o → HasValues 1 o
+compared_values k a b o (Compared.neither m n e) = known 1 o (refused 2 0) e (lit≤ tt)
+compared_values k a b o (Compared.first_wins l e) = known 1 o _ e refl
+compared_values k a b o (Compared.second_wins l e) = known 1 o _ e refl
 
 pub which_values : (a b : List ℕ) (edition : ℕ) (t : List ℕ) (o : Outcome) (y : List ℕ) → WhichMeaning a b edition t o y → HasValues 1 o
 which_values a b edition t o y (WhichMeaning.too_long l e k) = known 1 o (refused 1 0) e (lit≤ tt)
 which_values a b edition t o y (WhichMeaning.bad_edition l m i e k) = known 1 o (refused 12 0) e (lit≤ tt)
 which_values a b edition t o y (WhichMeaning.short_table l m i s e k) = known 1 o (refused 9 0) e (lit≤ tt)
-which_values a b edition t o y (WhichMeaning.settled r c k) = compared-values _ a b o c
+which_values a b edition t o y (WhichMeaning.settled r c k) = compared_values _ a b o c
 
 verdict_values : (B : ℕ → ℕ → ℕ → Type 0) (n : ℕ) (ends : List ℕ) (o : Outcome) → VerdictMeaning B n ends o → HasValues 1 o
 verdict_values B n ends o (VerdictMeaning.bad_end k a b f r e) = known 1 o (refused 3 k) e (lit≤ tt)

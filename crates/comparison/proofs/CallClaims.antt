@@ -112,8 +112,8 @@ module _ (k : ℕ) (w : List ℕ) where
   FirstEnd e = (s : ℕ) × ((es : List ℕ) × (Fewest k w s es × (e ≡ end_of es 1)))
 
 -- it lies within the word
-first_end-within : (k : ℕ) (w : List ℕ) (e : ℕ) → FirstEnd k w e → e ≤ length w
-first_end-within k w e F = go F.1.0 F.1.1.0.factorization F.1.1.1
+first_end_within : (k : ℕ) (w : List ℕ) (e : ℕ) → FirstEnd k w e → e ≤ length w
+first_end_within k w e F = go F.1.0 F.1.1.0.factorization F.1.1.1
   where
     go : (es : List ℕ) → Factorization (Block held_period k w) (length w) es → e ≡ end_of es 1 → e ≤ length w
     go [] C q = omega arith
@@ -148,8 +148,8 @@ module _ (k : ℕ) (a b : List ℕ) where
   Found (Refused r) = Unit {0}
 
   pub found_within : (c : Chosen) → Found c → Within a b c
-  found_within (First e) F = first_end-within k a e F
-  found_within (Second e) F = first_end-within k b e F
+  found_within (First e) F = first_end_within k a e F
+  found_within (Second e) F = first_end_within k b e F
   found_within (Refused r) F = tt
 
   pub chosen_found : Found (chosen (last_cell k a fewest) (last_cell k b fewest) (first_end k a) (first_end k b))

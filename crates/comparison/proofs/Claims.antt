@@ -1,5 +1,5 @@
 -- What follows for hosts from the meaning of the two calls: what swapping the words does (swap_turns), that a first block is a block of the edition
--- (first_block-repeats) and when it is empty (first_block-empty). By cases on what is chosen, and on what is known of the words' last boundaries. Assumes
+-- (first_block_repeats) and when it is empty (first_block_empty). By cases on what is chosen, and on what is known of the words' last boundaries. Assumes
 -- nothing.
 use mathlib.Core.Path.{◌≡◌, refl, sym, ap, ◌∙◌, subst}
 use mathlib.Core.Logic.{◌↔◌}
@@ -139,20 +139,20 @@ swap_work a b edition t = rw (max_comm (length b) (length a)) refl
 -- ---- the first block
 
 -- a word that is not empty has a first block, which is a block of k turns from its start on
-first_end-block : (k : ℕ) (w : List ℕ) (e : ℕ) → FirstEnd k w e → 0 < length w → Block held_period k w 0 e
-first_end-block k w e F h = go F.1.0 F.1.1.0.factorization F.1.1.1
+first_end_block : (k : ℕ) (w : List ℕ) (e : ℕ) → FirstEnd k w e → 0 < length w → Block held_period k w 0 e
+first_end_block k w e F h = go F.1.0 F.1.1.0.factorization F.1.1.1
   where
     go : (es : List ℕ) → Factorization (Block held_period k w) (length w) es → e ≡ end_of es 1 → Block held_period k w 0 e
     go [] C q = absurd (omega (arith, C))
     go (x ∷ xs) C q = subst (Block held_period k w 0) (sym q) C.0
 
-first_end-repeats : (k : ℕ) (w : List ℕ) (e : ℕ) → FirstEnd k w e → 0 < length w → Repetition held_period k (take e w)
-first_end-repeats k w e F h = subst (λ (x : ℕ). Repetition held_period k (take x w)) (sub-zero e) (first_end-block k w e F h).1
+first_end_repeats : (k : ℕ) (w : List ℕ) (e : ℕ) → FirstEnd k w e → 0 < length w → Repetition held_period k (take e w)
+first_end_repeats k w e F h = subst (λ (x : ℕ). Repetition held_period k (take x w)) (sub-zero e) (first_end_block k w e F h).1
 
 -- it is not empty
-first_end-some : (k : ℕ) (w : List ℕ) (e : ℕ) → FirstEnd k w e → 0 < length w → 0 < length (take e w)
-first_end-some k w e F h =
-    let B = first_end-block k w e F h in omega (arith, B.0, block_up held_period k w 0 e B, length-take e w)
+first_end_some : (k : ℕ) (w : List ℕ) (e : ℕ) → FirstEnd k w e → 0 < length w → 0 < length (take e w)
+first_end_some k w e F h =
+    let B = first_end_block k w e F h in omega (arith, B.0, block_up held_period k w 0 e B, length-take e w)
 
 -- why a first block is empty
 pub data NoBlock (a b : List ℕ) (o : Outcome) : Type 0 where
@@ -166,12 +166,12 @@ no_symbols (x ∷ w) n = absurd (n (omega arith))
 
 module _ (a b : List ℕ) (edition : ℕ) (t : List ℕ) where
   -- CLAIM: a first block is empty exactly when which first refuses or the word chosen is empty
-  pub first_block-empty : (first_block a b edition (length t) ≡ []) ↔ NoBlock a b (which_outcome a b edition (length t))
-  first_block-empty = (to (compared a b edition (length t)) (choice_means a b edition t).found, of (compared a b edition (length t)))
+  pub first_block_empty : (first_block a b edition (length t) ≡ []) ↔ NoBlock a b (which_outcome a b edition (length t))
+  first_block_empty = (to (compared a b edition (length t)) (choice_means a b edition t).found, of (compared a b edition (length t)))
     where
       to : (c : Chosen) → Found (turns_of edition) a b c → front a b (word_in c) (length_in c) ≡ [] → NoBlock a b (which_view c)
-      to (First e) F q = first_is_empty refl (no_symbols a (λ h. omega (arith, first_end-some (turns_of edition) a e F h, ap length q)))
-      to (Second e) F q = second_is_empty refl (no_symbols b (λ h. omega (arith, first_end-some (turns_of edition) b e F h, ap length q)))
+      to (First e) F q = first_is_empty refl (no_symbols a (λ h. omega (arith, first_end_some (turns_of edition) a e F h, ap length q)))
+      to (Second e) F q = second_is_empty refl (no_symbols b (λ h. omega (arith, first_end_some (turns_of edition) b e F h, ap length q)))
       to (Refused r) F q = which_first_refuses _ _ refl
 
       of : (c : Chosen) → NoBlock a b (which_view c) → front a b (word_in c) (length_in c) ≡ []
@@ -193,14 +193,14 @@ module _ (a b : List ℕ) (edition : ℕ) (t : List ℕ) where
       go (Refused r) h = refl
 
   -- CLAIM: any other is a block of the edition
-  pub first_block-repeats : (first_block a b edition (length t) ≡ [] → ⊥) → Repetition held_period (turns_of edition) (first_block a b edition (length t))
-  first_block-repeats n = go (compared a b edition (length t)) (choice_means a b edition t).found n
+  pub first_block_repeats : (first_block a b edition (length t) ≡ [] → ⊥) → Repetition held_period (turns_of edition) (first_block a b edition (length t))
+  first_block_repeats n = go (compared a b edition (length t)) (choice_means a b edition t).found n
     where
       some : (w : List ℕ) (e : ℕ) → (take e w ≡ [] → ⊥) → 0 < length w
       some [] e n = absurd (n (take-nil e))
       some (x ∷ w) e n = omega arith
 
       go : (c : Chosen) → Found (turns_of edition) a b c → (front a b (word_in c) (length_in c) ≡ [] → ⊥) → Repetition held_period (turns_of edition) (front a b (word_in c) (length_in c))
-      go (First e) F n = first_end-repeats (turns_of edition) a e F (some a e n)
-      go (Second e) F n = first_end-repeats (turns_of edition) b e F (some b e n)
+      go (First e) F n = first_end_repeats (turns_of edition) a e F (some a e n)
+      go (Second e) F n = first_end_repeats (turns_of edition) b e F (some b e n)
       go (Refused r) F n = absurd (n refl)

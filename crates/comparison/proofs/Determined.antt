@@ -46,20 +46,20 @@ module _ (k : ℕ) (w : List ℕ) where
       go (reached t q) A = absurd (n (ends_of k w) A.factorization)
 
   -- the end of its first block is one only
-  first_end-unique : (s : ℕ) (es : List ℕ) (e : ℕ) → Fewest k w s es → FirstEnd k w e → end_of es 1 ≡ e
-  first_end-unique s es e F G =
+  first_end_unique : (s : ℕ) (es : List ℕ) (e : ℕ) → Fewest k w s es → FirstEnd k w e → end_of es 1 ≡ e
+  first_end_unique s es e F G =
       ap (λ (x : List ℕ). end_of x 1) (best_unique smallest (Block held_period k w) (length w) s G.0 es G.1.0 F G.1.1.0).1 ∙ sym G.1.1.1
 
 -- ---- which first
 
 module _ (k : ℕ) (a b : List ℕ) (i j : ℕ) where
-  pub compared-unique : (o : Outcome) → Compared k a b o → o ≡ which_view (chosen (last_cell k a fewest) (last_cell k b fewest) i j)
-  compared-unique o (calls.Compared.neither n m e) = e ∙ rw (unsplittable_unreachable k a n, unsplittable_unreachable k b m) refl
-  compared-unique o (calls.Compared.first_wins (calls.Wins.only s es F n) e) = e ∙ rw ((fewest_reached k a s es F).1, unsplittable_unreachable k b n) refl
-  compared-unique o (calls.Compared.first_wins (calls.Wins.both s t es fs F G l) e) =
+  pub compared_unique : (o : Outcome) → Compared k a b o → o ≡ which_view (chosen (last_cell k a fewest) (last_cell k b fewest) i j)
+  compared_unique o (calls.Compared.neither n m e) = e ∙ rw (unsplittable_unreachable k a n, unsplittable_unreachable k b m) refl
+  compared_unique o (calls.Compared.first_wins (calls.Wins.only s es F n) e) = e ∙ rw ((fewest_reached k a s es F).1, unsplittable_unreachable k b n) refl
+  compared_unique o (calls.Compared.first_wins (calls.Wins.both s t es fs F G l) e) =
       e ∙ rw ((fewest_reached k a s es F).1, (fewest_reached k b t fs G).1, le-ltb t s l) refl
-  compared-unique o (calls.Compared.second_wins (calls.Wins.only t fs G n) e) = e ∙ rw (unsplittable_unreachable k a n, (fewest_reached k b t fs G).1) refl
-  compared-unique o (calls.Compared.second_wins (calls.Wins.both t s fs es G F l) e) =
+  compared_unique o (calls.Compared.second_wins (calls.Wins.only t fs G n) e) = e ∙ rw (unsplittable_unreachable k a n, (fewest_reached k b t fs G).1) refl
+  compared_unique o (calls.Compared.second_wins (calls.Wins.both t s fs es G F l) e) =
       e ∙ rw ((fewest_reached k a s es F).1, (fewest_reached k b t fs G).1, lt-ltb t s l) refl
 
 cleared_unique : (places : ℕ) (t y z : List ℕ) → Cleared places t y → Cleared places t z → y ≡ z
@@ -89,7 +89,7 @@ module _ (a b : List ℕ) (edition : ℕ) (t : List ℕ) where
       go (calls.WhichMeaning.bad_edition h l i e f) = by e f (promised_bad_edition a b edition t (fits h l) i)
       go (calls.WhichMeaning.short_table h l i d e f) = by e f (promised_short a b edition t (fits h l) i d)
       go (calls.WhichMeaning.settled R C K) =
-          by (compared-unique (turns_of edition) a b (first_end (turns_of edition) a) (first_end (turns_of edition) b) o C) (cleared_unique _ t y _ K (cleared_table _ t R.places))
+          by (compared_unique (turns_of edition) a b (first_end (turns_of edition) a) (first_end (turns_of edition) b) o C) (cleared_unique _ t y _ K (cleared_table _ t R.places))
           (promised_chosen a b edition t (fits R.first_fits R.second_fits) R.edition_known R.places)
 
   -- ---- first block
@@ -102,14 +102,14 @@ module _ (a b : List ℕ) (edition : ℕ) (t : List ℕ) where
 
   of_one : (c : Chosen) (s : ℕ) (es : List ℕ) → accepted (1 ∷ []) ≡ which_view c → Found (turns_of edition) a b c → Fewest (turns_of edition) a s es → (1 ≡ word_in c) × (end_of es 1 ≡ length_in c)
   of_one (First e) s es f F G =
-      (refl, first_end-unique (turns_of edition) a s es e G F)
+      (refl, first_end_unique (turns_of edition) a s es e G F)
   of_one (Second e) s es f F G = absurd (one_not_two _ refl f)
   of_one (Refused r) s es f F G = absurd (refused_accepted _ _ _ _ refl (sym f))
 
   of_two : (c : Chosen) (s : ℕ) (es : List ℕ) → accepted (2 ∷ []) ≡ which_view c → Found (turns_of edition) a b c → Fewest (turns_of edition) b s es → (2 ≡ word_in c) × (end_of es 1 ≡ length_in c)
   of_two (First e) s es f F G = absurd (one_not_two _ refl (sym f))
   of_two (Second e) s es f F G =
-      (refl, first_end-unique (turns_of edition) b s es e G F)
+      (refl, first_end_unique (turns_of edition) b s es e G F)
   of_two (Refused r) s es f F G = absurd (refused_accepted _ _ _ _ refl (sym f))
 
   -- CLAIM: the meaning of first block determines the word, the length and the working table

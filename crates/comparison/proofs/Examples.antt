@@ -166,17 +166,17 @@ unfolding compared bad_edition?
 no_block_after_9 = refl
 
 -- the word and the length that stand for the first block: 0 and 0 for none, 1 or 2 with 0 for an empty word
-pub numbers_of-the_second : (first_which word_abaabaababaabaabababa word_aabaabaa 1 88 ≡ 2) × (first_length word_abaabaababaabaabababa word_aabaabaa 1 88 ≡ 8)
+pub numbers_of_the_second : (first_which word_abaabaababaabaabababa word_aabaabaa 1 88 ≡ 2) × (first_length word_abaabaababaabaabababa word_aabaabaa 1 88 ≡ 8)
 unfolding compared cell best_ends repetition? smallest_period bad_edition? turns_of
-numbers_of-the_second = (refl, refl)
+numbers_of_the_second = (refl, refl)
 
-pub numbers_of-a_tie : (first_which word_abaabaababaabaabababa word_aabaabaacbbcbbcbb 1 88 ≡ 1) × (first_length word_abaabaababaabaabababa word_aabaabaacbbcbbcbb 1 88 ≡ 16)
+pub numbers_of_a_tie : (first_which word_abaabaababaabaabababa word_aabaabaacbbcbbcbb 1 88 ≡ 1) × (first_length word_abaabaababaabaabababa word_aabaabaacbbcbbcbb 1 88 ≡ 16)
 unfolding compared cell best_ends repetition? smallest_period bad_edition? turns_of
-numbers_of-a_tie = (refl, refl)
+numbers_of_a_tie = (refl, refl)
 
-pub numbers_of-an_empty_word : (first_which word_aa word_empty 1 12 ≡ 2) × (first_length word_aa word_empty 1 12 ≡ 0)
+pub numbers_of_an_empty_word : (first_which word_aa word_empty 1 12 ≡ 2) × (first_length word_aa word_empty 1 12 ≡ 0)
 unfolding compared cell best_ends repetition? smallest_period bad_edition? turns_of
-numbers_of-an_empty_word = (refl, refl)
+numbers_of_an_empty_word = (refl, refl)
 
 pub numbers_of-none : (first_which word_ab word_baa 1 16 ≡ 0) × (first_length word_ab word_baa 1 16 ≡ 0)
 unfolding compared cell best_ends repetition? smallest_period bad_edition? turns_of

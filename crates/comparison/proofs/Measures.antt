@@ -14,12 +14,12 @@ use Rattle.periods.specs.Period.{held_period}
 use Rattle.factors.specs.Factorization.{fewest, smallest, Cell, unreachable, reached, cell, best_ends}
 use Rattle.factors.specs.Table.{none, rows, size_in, previous, filled, ends_back}
 use Rattle.factors.specs.Verdict.{end_of}
-use Rattle.factors.proofs.Optimal.{size-bound, no_ends}
+use Rattle.factors.proofs.Optimal.{size_bound, no_ends}
 use Rattle.factors.proofs.TableLaws.{length-previous, previous-agrees, ends_back_lem}
 use Rattle.repetitions.specs.Block.{block?}
 use Rattle.repetitions.specs.BestSplit.{last_cell}
 use Rattle.factorizer.proofs.FillLaws.{zeros}
-use Rattle.factorizer.proofs.Filled.{filled-size, filled_row, filled-long, filled-past}
+use Rattle.factorizer.proofs.Filled.{filled-size, filled_row, filled_long, filled_past}
 use Rattle.comparison.specs.declared.Chosen.{Chosen}
 use Rattle.comparison.specs.Measure.{fewest_size, first_end, end_in, chosen_by}
 use Rattle.comparison.specs.Calls.{longer, chosen}
@@ -41,7 +41,7 @@ module _ (k : ℕ) (w t r : List ℕ) (is : r ≡ filled smallest (block? held_p
       go : (v : Cell) → cell smallest b n ≡ v → cond (eqb (size_in v) none) 0 (end_of (ends_back (previous smallest b n) (size_in v) n) 1) ≡ end_of (best_ends smallest b n) 1
       go unreachable e = sym (ap (λ (es : List ℕ). end_of es 1) (no_ends smallest b n e))
       go (reached s p) e =
-          rw (ne_eqb s none (λ x. omega (arith, size-bound smallest b n s p e)), ends_back_lem smallest b (previous smallest b n) n (omega (arith, length-previous smallest b n)) (previous-agrees smallest b n) s p e) refl
+          rw (ne_eqb s none (λ x. omega (arith, size_bound smallest b n s p e)), ends_back_lem smallest b (previous smallest b n) n (omega (arith, length-previous smallest b n)) (previous-agrees smallest b n) s p e) refl
 
 -- the size of what is reached is below none
 abbrev pub Small : Cell → Type 0
@@ -62,7 +62,7 @@ measured_chosen k a b h l r s i t j e A B =
     e ∙ rw (A.0, A.1, B.0, B.1) (chosen_by-sizes (last_cell k a fewest) (last_cell k b fewest) (first_end k a) (first_end k b) (small a h) (small b l))
   where
     small : (w : List ℕ) → length w < none → Small (last_cell k w fewest)
-    small w h s p e = omega (arith, size-bound smallest (block? held_period k w) (length w) s p e)
+    small w h s p e = omega (arith, size_bound smallest (block? held_period k w) (length w) s p e)
 
 -- the table after both fills, u for the first word and v for the second: its length, and what follows the places of the longer word, are as they were
 module _ (k : ℕ) (a b t u : List ℕ) (room : rows * (longer a b + 1) ≤ length t) (first : u ≡ filled smallest (block? held_period k a) (length a) t) where
@@ -73,18 +73,18 @@ module _ (k : ℕ) (a b t u : List ℕ) (room : rows * (longer a b + 1) ≤ leng
   right = le-max_right (length a) (length b)
 
   pub first_long : length u ≡ length t
-  first_long = ap length first ∙ filled-long smallest (block? held_period k a) (length a) t (omega (arith, left))
+  first_long = ap length first ∙ filled_long smallest (block? held_period k a) (length a) t (omega (arith, left))
 
   module _ (v : List ℕ) (second : v ≡ filled smallest (block? held_period k b) (length b) u) where
     both_long : length v ≡ length t
-    both_long = ap length second ∙ filled-long smallest (block? held_period k b) (length b) u (omega (arith, right, first_long)) ∙ first_long
+    both_long = ap length second ∙ filled_long smallest (block? held_period k b) (length b) u (omega (arith, right, first_long)) ∙ first_long
 
     both_kept : drop (rows * (longer a b + 1)) v ≡ drop (rows * (longer a b + 1)) t
     both_kept =
         ap (drop (rows * (longer a b + 1))) second
-        ∙ filled-past smallest (block? held_period k b) (length b) u (rows * (longer a b + 1)) (omega (arith, right))
+        ∙ filled_past smallest (block? held_period k b) (length b) u (rows * (longer a b + 1)) (omega (arith, right))
         ∙ ap (drop (rows * (longer a b + 1))) first
-        ∙ filled-past smallest (block? held_period k a) (length a) t (rows * (longer a b + 1)) (omega (arith, left))
+        ∙ filled_past smallest (block? held_period k a) (length a) t (rows * (longer a b + 1)) (omega (arith, left))
 
     -- those places cleared to z
     pub both_cleared : (places : ℕ) (z : List ℕ) → places ≡ rows * (longer a b + 1) → z ≡ zeros v 0 places

@@ -31,13 +31,13 @@ is_digit b l u = simp (le-leb zero_byte b l, le-leb b (zero_byte + 9) u)
 -- ---- digits
 
 -- so many as are asked for, in any base
-pub digits-in_length : (base : ℕ) (byte : ℕ → ℕ) (k x : ℕ) → length (digits_in base byte k x) ≡ k
+pub digits_in_length : (base : ℕ) (byte : ℕ → ℕ) (k x : ℕ) → length (digits_in base byte k x) ≡ k
 unfolding digits_in
-digits-in_length base byte zero x = refl
-digits-in_length base byte (suc k) x = omega (arith, length-append (digits_in base byte k (x / base)) (byte (x % base) ∷ []), digits-in_length base byte k (x / base))
+digits_in_length base byte zero x = refl
+digits_in_length base byte (suc k) x = omega (arith, length-append (digits_in base byte k (x / base)) (byte (x % base) ∷ []), digits_in_length base byte k (x / base))
 
 pub digits-length : (k x : ℕ) → length (digits k x) ≡ k
-digits-length k x = digits-in_length 10 decimal_byte k x
+digits-length k x = digits_in_length 10 decimal_byte k x
 
 digits_append : (xs ys : List ℕ) → T (digits? xs) → T (digits? ys) → T (digits? (xs ++ ys))
 digits_append [] ys a b = b
@@ -47,21 +47,21 @@ one_digit : (d : ℕ) → d ≤ 9 → T (digits? ((zero_byte + d) ∷ []))
 one_digit d h = and_intro (digit? (zero_byte + d)) true (subst T (sym (is_digit (zero_byte + d) (omega arith) (omega arith))) tt) tt
 
 -- CLAIM: what is written is digits
-pub digits-are_digits : (k x : ℕ) → T (digits? (digits k x))
+pub digits_are_digits : (k x : ℕ) → T (digits? (digits k x))
 unfolding digits_in
-digits-are_digits zero x = tt
-digits-are_digits (suc k) x = digits_append (digits k (x / 10)) ((zero_byte + x % 10) ∷ []) (digits-are_digits k (x / 10)) (one_digit (x % 10) (omega arith))
+digits_are_digits zero x = tt
+digits_are_digits (suc k) x = digits_append (digits k (x / 10)) ((zero_byte + x % 10) ∷ []) (digits_are_digits k (x / 10)) (one_digit (x % 10) (omega arith))
 
-spelled-snoc : (a : ℕ) (xs : List ℕ) (b : ℕ) → spelled a (xs ++ b ∷ []) ≡ spelled a xs * 10 + (b - zero_byte)
-spelled-snoc a [] b = refl
-spelled-snoc a (x ∷ xs) b = spelled-snoc (a * 10 + (x - zero_byte)) xs b
+spelled_snoc : (a : ℕ) (xs : List ℕ) (b : ℕ) → spelled a (xs ++ b ∷ []) ≡ spelled a xs * 10 + (b - zero_byte)
+spelled_snoc a [] b = refl
+spelled_snoc a (x ∷ xs) b = spelled_snoc (a * 10 + (x - zero_byte)) xs b
 
 -- CLAIM: what is written reads as the number, if it has no more digits
 pub digits_value : (k x : ℕ) → x < 10 ^ k → value (digits k x) ≡ x
 unfolding digits_in
 digits_value zero x h = omega arith
 digits_value (suc k) x h =
-    spelled-snoc 0 (digits k (x / 10)) (zero_byte + x % 10)
+    spelled_snoc 0 (digits k (x / 10)) (zero_byte + x % 10)
     ∙ omega (arith, digits_value k (x / 10) (omega (arith, pow-suc 10 k)))
 
 -- the digits of a number and those spelled after it
@@ -85,18 +85,18 @@ pub value-digits : (bs : List ℕ) → T (digits? bs) → digits (length bs) (va
 unfolding digits_in
 value-digits bs h = ap (λ (j : ℕ). digits j (value bs)) (sym (zero-add (length bs))) ∙ digits-spelled bs 0 0 h
 
-spelled-bound : (bs : List ℕ) (x : ℕ) → T (digits? bs) → spelled x bs < suc x * 10 ^ length bs
-spelled-bound [] x h = omega arith
-spelled-bound (b ∷ bs) x h =
+spelled_bound : (bs : List ℕ) (x : ℕ) → T (digits? bs) → spelled x bs < suc x * 10 ^ length bs
+spelled_bound [] x h = omega arith
+spelled_bound (b ∷ bs) x h =
     let high : b ≤ zero_byte + 9 = digit_high b (and_left (digit? b) (digits? bs) h) in
     let y : ℕ = x * 10 + (b - zero_byte) in
     let power : suc x * 10 * 10 ^ length bs ≡ suc x * 10 ^ suc (length bs) = mul_assoc (suc x) 10 (10 ^ length bs) ∙ ap (λ (p : ℕ). suc x * p) (sym (pow-succ' 10 (length bs))) in
     subst (λ (p : ℕ). spelled y bs < p) power
-    (lt_of_lt_of_le (spelled-bound bs y (and_right (digit? b) (digits? bs) h)) (mul-le-mul_right (10 ^ length bs) (omega arith)))
+    (lt_of_lt_of_le (spelled_bound bs y (and_right (digit? b) (digits? bs) h)) (mul-le-mul_right (10 ^ length bs) (omega arith)))
 
 -- CLAIM: so many digits spell a number below that power of ten
-pub value-bound : (bs : List ℕ) → T (digits? bs) → value bs < 10 ^ length bs
-value-bound bs h = omega (arith, spelled-bound bs 0 h)
+pub value_bound : (bs : List ℕ) → T (digits? bs) → value bs < 10 ^ length bs
+value_bound bs h = omega (arith, spelled_bound bs 0 h)
 
 -- ---- what the reader says
 
@@ -121,7 +121,7 @@ number_none bs e = go (digits? bs) refl
 -- digits that are written are read
 pub number_digits : (k x : ℕ) → x < 10 ^ k → number_in (digits k x) ≡ x ∷ []
 unfolding number_in
-number_digits k x h = rw (T_true (digits? (digits k x)) (digits-are_digits k x), digits_value k x h) refl
+number_digits k x h = rw (T_true (digits? (digits k x)) (digits_are_digits k x), digits_value k x h) refl
 
 -- and one more digit makes ten times the number and that digit
 pub number_more : (bs : List ℕ) (x d : ℕ) → number_in bs ≡ x ∷ [] → d ≤ 9 → number_in (bs ++ (zero_byte + d) ∷ []) ≡ (x * 10 + d) ∷ []
@@ -129,7 +129,7 @@ unfolding number_in
 number_more bs x d e h =
     let s = number_some bs x (sym e) in
     let b : T (digits? (bs ++ (zero_byte + d) ∷ [])) = digits_append bs ((zero_byte + d) ∷ []) (subst T (sym s.0) tt) (one_digit d h) in
-    rw (T_true (digits? (bs ++ (zero_byte + d) ∷ [])) b) (ap (λ (y : ℕ). y ∷ []) (spelled-snoc 0 bs (zero_byte + d) ∙ omega (arith, s.1)))
+    rw (T_true (digits? (bs ++ (zero_byte + d) ∷ [])) b) (ap (λ (y : ℕ). y ∷ []) (spelled_snoc 0 bs (zero_byte + d) ∙ omega (arith, s.1)))
 
 -- ---- digits from the highest down
 

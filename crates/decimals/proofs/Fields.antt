@@ -30,8 +30,8 @@ at_most_at m [] k S h = absurd (omega arith)
 at_most_at m (x ∷ xs) zero S h = S.0
 at_most_at m (x ∷ xs) (suc k) S h = at_most_at m xs k S.1 (omega arith)
 
-pub plain-long : (x : ℕ) → length (plain x) ≤ 10
-plain-long x = omega (arith, digits-length (digit_count 9 x) x, count_most 9 x)
+pub plain_long : (x : ℕ) → length (plain x) ≤ 10
+plain_long x = omega (arith, digits-length (digit_count 9 x) x, count_most 9 x)
 
 module _ (b : ℕ) where
   pub fields_more : (xs : List ℕ) (i : ℕ) → i < length xs → fields_after b (drop i xs) ≡ (b ∷ plain (get_or xs i 0)) ++ fields_after b (drop (i + 1) xs)
@@ -45,4 +45,4 @@ module _ (b : ℕ) where
   pub fields_long : (xs : List ℕ) → length (fields_after b xs) ≤ 11 * length xs
   unfolding fields_after
   fields_long [] = omega arith
-  fields_long (x ∷ xs) = omega (arith, plain-long x, fields_long xs, length-append (plain x) (fields_after b xs))
+  fields_long (x ∷ xs) = omega (arith, plain_long x, fields_long xs, length-append (plain x) (fields_after b xs))

@@ -72,8 +72,8 @@ power_at (suc n) p (suc k) h = power_at n (p * 10) k (omega arith) ∙ mul_assoc
 pub powers_are : (k : ℕ) → k < most_digits → get_or (powers most_digits 1) k 0 ≡ 10 ^ k
 powers_are k h = power_at most_digits 1 k h ∙ one-mul (10 ^ k)
 
-pub power-positive : (k : ℕ) → 1 ≤ 10 ^ k
-power-positive k = pow-le-pow_right {n = 10} (omega arith) {i = 0} {j = k} (omega arith)
+pub power_positive : (k : ℕ) → 1 ≤ 10 ^ k
+power_positive k = pow-le-pow_right {n = 10} (omega arith) {i = 0} {j = k} (omega arith)
 
 -- the number made with a digit is the whole number divided by the digit's power of ten
 pub made_quotient : (width i x p : ℕ) → p ≡ 10 ^ (width - 1 - i) → x / p ≡ made width (i + 1) x
@@ -135,17 +135,17 @@ module _ (s : List ℕ) (at width i x : ℕ) (inside : at + width ≤ length s) 
   abbrev after : List ℕ
   after = drop (i + 1) (field s at width)
 
-  field-from : i < width → spelled_in x (drop i (field s at width)) ≡ spelled_in x (byte ∷ after)
-  field-from l =
+  field_from : i < width → spelled_in x (drop i (field s at width)) ≡ spelled_in x (byte ∷ after)
+  field_from l =
       ap (spelled_in x)
       (drop-cons (field s at width) i 0 (omega (arith, field-length s at width inside))
       ∙ ap₂ (λ (b j : ℕ). b ∷ drop j (field s at width)) (get_or-take width (drop at s) i 0 l ∙ get_or-drop at s i 0) (sym (add-one i)))
 
   pub read_low : i < width → get_or s (at + i) 0 < zero_byte → spelled_in x (drop i (field s at width)) ≡ []
-  read_low l h = field-from l ∙ simp (lt-leb zero_byte byte h)
+  read_low l h = field_from l ∙ simp (lt-leb zero_byte byte h)
 
   pub read_high : i < width → zero_byte + 9 < get_or s (at + i) 0 → spelled_in x (drop i (field s at width)) ≡ []
-  read_high l h = field-from l ∙ go (leb zero_byte byte)
+  read_high l h = field_from l ∙ go (leb zero_byte byte)
     where
       go : (t : Bool) → cond (t && leb byte (zero_byte + 9) && digits? after) (spelled (x * 10 + (byte - zero_byte)) after ∷ []) [] ≡ []
       go true = simp (lt-leb byte (zero_byte + 9) h)
@@ -153,7 +153,7 @@ module _ (s : List ℕ) (at width i x : ℕ) (inside : at + width ≤ length s) 
 
   pub read_digit : i < width → zero_byte ≤ get_or s (at + i) 0 → get_or s (at + i) 0 ≤ zero_byte + 9
       → spelled_in x (drop i (field s at width)) ≡ spelled_in (x * 10 + (get_or s (at + i) 0 - zero_byte)) (drop (i + 1) (field s at width))
-  read_digit l a b = field-from l ∙ simp (is_digit byte a b)
+  read_digit l a b = field_from l ∙ simp (is_digit byte a b)
 
   pub read_done : width ≤ i → spelled_in x (drop i (field s at width)) ≡ x ∷ []
   read_done l = ap (spelled_in x) (drop_of_length-le (field s at width) {i = i} (omega (arith, field-length s at width inside)))

@@ -17,8 +17,8 @@ use Rattle.answers.specs.Outcome.{Outcome, refused}
 use Rattle.answers.proofs.Claims.{refused_accepted, refused_number}
 use Rattle.factors.specs.Factorization.{Factorization, size, Choice, choice_of, Cell, unreachable, reached, cell, best_ends}
 use Rattle.factors.specs.Table.{none, rows, size_in, sizes}
-use Rattle.factors.proofs.Optimal.{Answers, best_factorization, size-bound}
-use Rattle.factors.proofs.TableLaws.{length-sizes, sizes-at}
+use Rattle.factors.proofs.Optimal.{Answers, best_factorization, size_bound}
+use Rattle.factors.proofs.TableLaws.{length-sizes, sizes_at}
 use Rattle.factorizer.specs.Piece.{Piece, piece?, Decides}
 use Rattle.factorizer.specs.Best.{size_outcome, size_ends, whole_cell, settled_ends, settled_work, tested, chosen_outcome, chosen_ends, chosen_work, Reported, unsplittable, best, Answered, no_split, too_few, written, Settled, Chosen, bad_choice, short_table, settled}
 use Rattle.factorizer.proofs.Pieces.{piece_sound, piece_complete, piece_test_up, prefix_factorizations}
@@ -47,7 +47,7 @@ module _ (P : List ℕ → Type 0) (p : List ℕ → Bool) (D : Decides P p) (c 
           (subst (λ (x : ℕ). Factorization (Piece P (take m w)) x (best_ends c (piece? p w) m)) (sym long)
           ((prefix_factorizations P p D w m (best_ends c (piece? p w) m) h).1 A.factorization))
           A.sized
-          (omega (arith, size-bound c (piece? p w) m s q e))
+          (omega (arith, size_bound c (piece? p w) m s q e))
           (λ fs f. A.best fs (own fs f))
 
   -- what is answered of the whole
@@ -155,7 +155,7 @@ module _ (P : List ℕ → Type 0) (p : List ℕ → Bool) (D : Decides P p) (w 
       zero_long = length-replicate {A = ℕ} (3 * (length w + 1)) 0
 
       at : (m : ℕ) → m ≤ length w → get_or (S ++ (Z ++ R)) m 0 ≡ size_in (cell c (piece? p w) m)
-      at m h = get_or-append S (Z ++ R) 0 m (omega (arith, first)) ∙ sizes-at c (piece? p w) (length w) m h
+      at m h = get_or-append S (Z ++ R) 0 m (omega (arith, first)) ∙ sizes_at c (piece? p w) (length w) m h
 
       cleared : (i : ℕ) → length w < i → i < rows * (length w + 1) → get_or (S ++ (Z ++ R)) i 0 ≡ 0
       cleared i h k =

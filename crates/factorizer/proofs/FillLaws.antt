@@ -14,18 +14,18 @@ use Rattle.periods.specs.Period.{part, smallest_period, repetition?, held_period
 use Rattle.periods.specs.Edition.{Edition, Turns}
 use Rattle.periods.specs.Part.{part_table}
 use Rattle.periods.proofs.InPlace.{placed_part}
-use Rattle.periods.proofs.Claims.{part-periods_rise}
+use Rattle.periods.proofs.Claims.{part_periods_rise}
 use Rattle.periods.proofs.UnitsTable.{units_length, units_of_part}
-use Rattle.periods.proofs.PartClaims.{part-described}
+use Rattle.periods.proofs.PartClaims.{part_described}
 use Rattle.factors.specs.Factorization.{Choice, cell}
 use Rattle.factors.specs.Table.{rows, Holds, sizes, previous, started, filled}
 use Rattle.factors.proofs.TableLaws.{length-started, started-drop}
 use Rattle.factors.proofs.Lent.{lent, lent_length, lent_below, lent_within, lent_rest}
-use Rattle.factors.proofs.Filling.{rows-of_cells}
+use Rattle.factors.proofs.Filling.{rows_of_cells}
 use Rattle.factorizer.specs.Piece.{piece?}
 use Rattle.factorizer.specs.Fill.{unit_at, UnitsRise, ends_block}
 use Rattle.factorizer.specs.Window.{window_of, RestKept}
-use Rattle.factorizer.proofs.Rules.{block_by-unit}
+use Rattle.factorizer.proofs.Rules.{block_by_unit}
 
 -- where rows 2 and 3 start, and where they end
 abbrev pub second : ℕ → ℕ
@@ -64,7 +64,7 @@ pub laid_from : (w : List ℕ) (edition j e : ℕ) (t u : List ℕ) → length w
     → u ≡ part_table w edition (j + 1) e (row_two w t) → lent t (second (length w)) (third (length w)) u ≡ laid w j e t
 unfolding laid
 laid_from w edition j e t u h k l m room f =
-    let g = part-described w edition (j + 1) e (row_two w t) h k (omega arith, omega arith, omega arith) (omega (arith, row_two_long w t room)) in
+    let g = part_described w edition (j + 1) e (row_two w t) h k (omega arith, omega arith, omega arith) (omega (arith, row_two_long w t room)) in
     let z : j + 1 - 1 ≡ j = omega arith in
     ap (lent t (second (length w)) (third (length w))) (f ∙ sym g.1 ∙ ap (λ (i : ℕ). units_table (part w i e) (row_two w t)) z)
 
@@ -97,7 +97,7 @@ module _ (w : List ℕ) (j e : ℕ) (t : List ℕ) (inside : e ≤ length w) (ro
 
   pub laid_rises : UnitsRise (length w) (e - j) (laid w j e t)
   laid_rises d f h l =
-      omega (arith, laid_unit d (omega arith), laid_unit f (omega arith), part-periods_rise w j (j + (d + 1)) (j + (f + 1)) (omega arith) (omega arith) (omega arith))
+      omega (arith, laid_unit d (omega arith), laid_unit f (omega arith), part_periods_rise w j (j + (d + 1)) (j + (f + 1)) (omega arith) (omega arith) (omega arith))
 
   -- within a window the test of the units decides where a block ends
   pub laid_decides : (k : ℕ) → Turns k → (d : ℕ) → j + d < e → d < window_of k
@@ -107,7 +107,7 @@ module _ (w : List ℕ) (j e : ℕ) (t : List ℕ) (inside : e ≤ length w) (ro
       let l : length s ≡ d + 1 = (placed_part w j (j + (d + 1)) (omega arith)).long ∙ omega arith in
       ap (λ (x : ℕ). leb (k * x) (d + 1)) (laid_unit d h)
       ∙ ap (λ (x : ℕ). leb (k * smallest_period s) x) (sym l)
-      ∙ block_by-unit k turns s (omega (arith, l)) (omega (arith, l))
+      ∙ block_by_unit k turns s (omega (arith, l)) (omega (arith, l))
       ∙ rw (le-leb (j + (d + 1)) (length w) (omega arith)) refl
 
 -- a table whose row 0 is started and whose row 1 is cleared
@@ -119,19 +119,19 @@ unfolding begun
 begun_from w t s z e f = rw (f, e) refl
 
 module _ (w t : List ℕ) (room : rows * (length w + 1) ≤ length t) where
-  started-long : length (started (length w) t) ≡ length t
-  started-long = length-started (length w) t (omega arith)
+  started_long : length (started (length w) t) ≡ length t
+  started_long = length-started (length w) t (omega arith)
 
   row_fits : length (zeros (started (length w) t) (length w + 1) (second (length w))) ≡ second (length w) - (length w + 1)
-  row_fits = zeros_length (started (length w) t) (length w + 1) (second (length w)) (omega (arith, started-long))
+  row_fits = zeros_length (started (length w) t) (length w + 1) (second (length w)) (omega (arith, started_long))
 
   pub begun_kept : RestKept (length w) t (begun w t)
   unfolding begun
   begun_kept = (
-    lent_length (started (length w) t) (length w + 1) (second (length w)) (zeros (started (length w) t) (length w + 1) (second (length w))) (omega arith) (omega (arith, started-long)) row_fits
-        ∙ started-long,
+    lent_length (started (length w) t) (length w + 1) (second (length w)) (zeros (started (length w) t) (length w + 1) (second (length w))) (omega arith) (omega (arith, started_long)) row_fits
+        ∙ started_long,
     lent_rest (started (length w) t) (length w + 1) (second (length w)) (zeros (started (length w) t) (length w + 1) (second (length w)))
-        (omega arith) (omega (arith, started-long)) row_fits (rows * (length w + 1)) (omega arith)
+        (omega arith) (omega (arith, started_long)) row_fits (rows * (length w + 1)) (omega arith)
         ∙ started-drop (length w) t (rows * (length w + 1)) (omega arith),
   )
 
@@ -139,27 +139,27 @@ module _ (w t : List ℕ) (room : rows * (length w + 1) ≤ length t) where
   unfolding begun
   begun_front i h =
       lent_below (started (length w) t) (length w + 1) (second (length w)) (zeros (started (length w) t) (length w + 1) (second (length w)))
-      (omega arith) (omega (arith, started-long)) row_fits i (omega arith)
+      (omega arith) (omega (arith, started_long)) row_fits i (omega arith)
 
   pub begun_zeros : (i : ℕ) → length w < i → i < second (length w) → get_or (begun w t) i 0 ≡ 0
   unfolding begun
   begun_zeros i h l =
       lent_within (started (length w) t) (length w + 1) (second (length w)) (zeros (started (length w) t) (length w + 1) (second (length w)))
-      (omega arith) (omega (arith, started-long)) row_fits i (omega arith) l
+      (omega arith) (omega (arith, started_long)) row_fits i (omega arith) l
       ∙ get_or-replicate (length (take (second (length w) - (length w + 1)) (drop (length w + 1) (started (length w) t)))) (i - (length w + 1)) 0 0
-      (omega (arith, length-take (second (length w) - (length w + 1)) (drop (length w + 1) (started (length w) t)), length-drop (length w + 1) (started (length w) t), started-long))
+      (omega (arith, length-take (second (length w) - (length w + 1)) (drop (length w + 1) (started (length w) t)), length-drop (length w + 1) (started (length w) t), started_long))
 
 -- all places hold their cells, and rows 2 and 3 are cleared
-pub filled-from : (c : Choice) (b : ℕ → ℕ → Bool) (w t r : List ℕ) → rows * (length w + 1) ≤ length t → RestKept (length w) t r
+pub filled_from : (c : Choice) (b : ℕ → ℕ → Bool) (w t r : List ℕ) → rows * (length w + 1) ≤ length t → RestKept (length w) t r
     → ((m : ℕ) → m ≤ length w → Holds r m (length w + 1 + m) (cell c b m))
     → lent r (second (length w)) (fourth (length w)) (zeros r (second (length w)) (fourth (length w))) ≡ filled c b (length w) t
-filled-from c b w t r room kept H =
+filled_from c b w t r room kept H =
     let e : fourth (length w) - second (length w) ≡ 2 * (length w + 1) = omega arith in
     let z : length (take (fourth (length w) - second (length w)) (drop (second (length w)) r)) ≡ 2 * (length w + 1) =
     length-take (fourth (length w) - second (length w)) (drop (second (length w)) r) ∙ omega (arith, length-drop (second (length w)) r, kept.0) in
     let d : drop (fourth (length w) - second (length w)) (drop (second (length w)) r) ≡ drop (rows * (length w + 1)) t =
     drop-drop (fourth (length w) - second (length w)) (second (length w)) r ∙ ap (λ (x : ℕ). drop x r) (sums e) ∙ kept.1 in
-    rw (rows-of_cells c b (length w) r (omega (arith, kept.0)) H, z, d)
+    rw (rows_of_cells c b (length w) r (omega (arith, kept.0)) H, z, d)
     (append_assoc (sizes c b (length w)) (previous c b (length w)) (replicate (2 * (length w + 1)) 0 ++ drop (rows * (length w + 1)) t))
   where
     sums : fourth (length w) - second (length w) ≡ 2 * (length w + 1) → second (length w) + (fourth (length w) - second (length w)) ≡ rows * (length w + 1)

@@ -12,8 +12,8 @@ use lib.Seq.{take_at, drop_at, drop-append-add, drop-drop}
 use Rattle.answers.specs.Outcome.{Outcome, limit}
 use Rattle.factors.specs.Factorization.{Choice, choice_of, Cell, unreachable, reached, cell, best_ends}
 use Rattle.factors.specs.Table.{none, rows, size_in, sizes, previous, filled, ends_back, Linked}
-use Rattle.factors.proofs.Optimal.{size-bound}
-use Rattle.factors.proofs.TableLaws.{length-sizes, length-previous, sizes-at, previous-agrees, linked, ends_back_lem}
+use Rattle.factors.proofs.Optimal.{size_bound}
+use Rattle.factors.proofs.TableLaws.{length-sizes, length-previous, sizes_at, previous-agrees, linked, ends_back_lem}
 use Rattle.factors.proofs.Lent.{lent}
 use Rattle.factorizer.specs.Piece.{piece?}
 use Rattle.factorizer.specs.Fill.{row_one, Readable, handed_outcome, handed_ends, cleared_row}
@@ -24,7 +24,7 @@ module _ (c : Choice) (b : ℕ → ℕ → Bool) (n : ℕ) (t : List ℕ) where
   pub filled-size : (m : ℕ) → m ≤ n → get_or (filled c b n t) m 0 ≡ size_in (cell c b m)
   filled-size m h =
       get_or-append (sizes c b n) (previous c b n ++ (replicate (2 * (n + 1)) 0 ++ drop (rows * (n + 1)) t)) 0 m (omega (arith, length-sizes c b n))
-      ∙ sizes-at c b n m h
+      ∙ sizes_at c b n m h
 
   pub filled_row : row_one n (filled c b n t) ≡ previous c b n
   filled_row =
@@ -32,8 +32,8 @@ module _ (c : Choice) (b : ℕ → ℕ → Bool) (n : ℕ) (t : List ℕ) where
       rw (e, drop_at (sizes c b n) (previous c b n ++ (replicate (2 * (n + 1)) 0 ++ drop (rows * (n + 1)) t)) (n + 1) (length-sizes c b n ∙ omega arith))
       (take_at (previous c b n) (replicate (2 * (n + 1)) 0 ++ drop (rows * (n + 1)) t) (n + 1) (length-previous c b n ∙ omega arith))
 
-  pub filled-long : rows * (n + 1) ≤ length t → length (filled c b n t) ≡ length t
-  filled-long h =
+  pub filled_long : rows * (n + 1) ≤ length t → length (filled c b n t) ≡ length t
+  filled_long h =
       omega (
         arith,
         length-append (sizes c b n) (previous c b n ++ (replicate (2 * (n + 1)) 0 ++ drop (rows * (n + 1)) t)),
@@ -46,8 +46,8 @@ module _ (c : Choice) (b : ℕ → ℕ → Bool) (n : ℕ) (t : List ℕ) where
       )
 
   -- what follows the four rows
-  pub filled-past : (m : ℕ) → rows * (n + 1) ≤ m → drop m (filled c b n t) ≡ drop m t
-  filled-past m h =
+  pub filled_past : (m : ℕ) → rows * (n + 1) ≤ m → drop m (filled c b n t) ≡ drop m t
+  filled_past m h =
       let S = sizes c b n in
       let P = previous c b n in
       let Z : List ℕ = replicate (2 * (n + 1)) 0 in
@@ -63,8 +63,8 @@ module _ (c : Choice) (b : ℕ → ℕ → Bool) (n : ℕ) (t : List ℕ) where
       ∙ ap (λ (x : ℕ). drop x t) f
 
   -- the row of previous boundaries cleared
-  pub filled-cleared : cleared_row n (filled c b n t) ≡ sizes c b n ++ (replicate (3 * (n + 1)) 0 ++ drop (rows * (n + 1)) t)
-  filled-cleared =
+  pub filled_cleared : cleared_row n (filled c b n t) ≡ sizes c b n ++ (replicate (3 * (n + 1)) 0 ++ drop (rows * (n + 1)) t)
+  filled_cleared =
       let S = sizes c b n in
       let P = previous c b n in
       let R = replicate (2 * (n + 1)) 0 ++ drop (rows * (n + 1)) t in
@@ -78,26 +78,26 @@ module _ (c : Choice) (b : ℕ → ℕ → Bool) (n : ℕ) (t : List ℕ) where
       ∙ ap (λ (x : List ℕ). x ++ drop (rows * (n + 1)) t) (replicate-append-replicate (n + 1) (2 * (n + 1)) 0 ∙ ap (λ (x : ℕ). replicate x 0) z)))
 
   small : n < none → (s p : ℕ) → cell c b n ≡ reached s p → s < none
-  small h s p e = omega (arith, size-bound c b n s p e)
+  small h s p e = omega (arith, size_bound c b n s p e)
 
   -- the way back from the whole word
-  filled-linked : n < none → (get_or (filled c b n t) n 0 ≡ none → ⊥) → Linked (row_one n (filled c b n t)) (get_or (filled c b n t) n 0) n
-  filled-linked h ne = rw (filled_row, filled-size n (omega arith)) (go (cell c b n) refl (λ e. ne (filled-size n (omega arith) ∙ e)))
+  filled_linked : n < none → (get_or (filled c b n t) n 0 ≡ none → ⊥) → Linked (row_one n (filled c b n t)) (get_or (filled c b n t) n 0) n
+  filled_linked h ne = rw (filled_row, filled-size n (omega arith)) (go (cell c b n) refl (λ e. ne (filled-size n (omega arith) ∙ e)))
     where
       go : (v : Cell) → cell c b n ≡ v → (size_in v ≡ none → ⊥) → Linked (previous c b n) (size_in v) n
       go unreachable e x = absurd (x refl)
       go (reached s p) e x = linked c b (previous c b n) n (omega (arith, length-previous c b n)) (previous-agrees c b n) s p e
 
   -- what is handed out from it
-  pub filled-outcome : n < none → (places : ℕ) → handed_outcome (get_or (filled c b n t) n 0) places ≡ size_outcome (cell c b n) places
-  filled-outcome h places = rw (filled-size n (omega arith)) (go (cell c b n) refl)
+  pub filled_outcome : n < none → (places : ℕ) → handed_outcome (get_or (filled c b n t) n 0) places ≡ size_outcome (cell c b n) places
+  filled_outcome h places = rw (filled-size n (omega arith)) (go (cell c b n) refl)
     where
       go : (v : Cell) → cell c b n ≡ v → handed_outcome (size_in v) places ≡ size_outcome v places
       go unreachable e = refl
       go (reached s p) e = rw (ne_eqb s none (λ x. omega (arith, small h s p e))) refl
 
-  pub filled-ends : n < none → (e : List ℕ) → handed_ends n (filled c b n t) e ≡ size_ends (cell c b n) (best_ends c b n) e
-  filled-ends h e = rw (filled_row, filled-size n (omega arith)) (go (cell c b n) refl)
+  pub filled_ends : n < none → (e : List ℕ) → handed_ends n (filled c b n t) e ≡ size_ends (cell c b n) (best_ends c b n) e
+  filled_ends h e = rw (filled_row, filled-size n (omega arith)) (go (cell c b n) refl)
     where
       go : (v : Cell) → cell c b n ≡ v
           → cond (eqb (size_in v) none) e (cond (ltb (length e) (size_in v)) e (ends_back (previous c b n) (size_in v) n ++ drop (size_in v) e)) ≡ size_ends v (best_ends c b n) e
@@ -122,8 +122,8 @@ module _ (p : List ℕ → Bool) (w : List ℕ) (choice : ℕ) (t x : List ℕ) 
   pub given_readable : Readable (length w) x
   given_readable = (
     short,
-    omega (arith, ap length is, filled-long (choice_of choice) (piece? p w) (length w) t room),
-    rw is (filled-linked (choice_of choice) (piece? p w) (length w) t (omega arith)),
+    omega (arith, ap length is, filled_long (choice_of choice) (piece? p w) (length w) t room),
+    rw is (filled_linked (choice_of choice) (piece? p w) (length w) t (omega arith)),
   )
 
   -- CLAIM: what it ensures is the answer and the tables of the best split
@@ -131,9 +131,9 @@ module _ (p : List ℕ → Bool) (w : List ℕ) (choice : ℕ) (t x : List ℕ) 
       → (o ≡ handed_outcome (get_or x (length w) 0) (length e)) × ((f ≡ handed_ends (length w) x e) × (y ≡ cleared_row (length w) x))
       → (o ≡ size_outcome (whole_cell p w choice) (length e)) × ((f ≡ settled_ends p w choice e) × (y ≡ settled_work p w choice t))
   given_finished e o f y E = (
-    E.0 ∙ rw is (filled-outcome (choice_of choice) (piece? p w) (length w) t (omega arith) (length e)),
+    E.0 ∙ rw is (filled_outcome (choice_of choice) (piece? p w) (length w) t (omega arith) (length e)),
     (
-      E.1.0 ∙ rw is (filled-ends (choice_of choice) (piece? p w) (length w) t (omega arith) e),
-      E.1.1 ∙ rw is (filled-cleared (choice_of choice) (piece? p w) (length w) t),
+      E.1.0 ∙ rw is (filled_ends (choice_of choice) (piece? p w) (length w) t (omega arith) e),
+      E.1.1 ∙ rw is (filled_cleared (choice_of choice) (piece? p w) (length w) t),
     ),
   )

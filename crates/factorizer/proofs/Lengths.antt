@@ -18,7 +18,7 @@ use Rattle.factorizer.specs.Piece.{piece?}
 use Rattle.factorizer.specs.Fill.{unit_at, UnitsRise, ends_block, Readable, handed_outcome, handed_ends, cleared_row}
 use Rattle.factorizer.specs.Window.{window_of, Windowed, RestKept}
 use Rattle.factorizer.specs.Best.{size_outcome, whole_cell, settled_ends, settled_work}
-use Rattle.factorizer.proofs.FillLaws.{second, third, fourth, zeros, laid, laid_from, laid_rises, begun, begun_from, filled-from}
+use Rattle.factorizer.proofs.FillLaws.{second, third, fourth, zeros, laid, laid_from, laid_rises, begun, begun_from, filled_from}
 use Rattle.factorizer.proofs.Visits.{given_offers}
 use Rattle.factorizer.proofs.Filled.{given_readable, given_finished}
 
@@ -45,7 +45,7 @@ module _ (w : List ℕ) (n : ℕ) (is : n ≡ length w) where
   pub sized_filled : (c : Choice) (b : ℕ → ℕ → Bool) (t r z : List ℕ) → rows * (length w + 1) ≤ length t → RestKept (length w) t r
       → ((m : ℕ) → m ≤ length w → Holds r m (length w + 1 + m) (cell c b m)) → z ≡ zeros r (second n) (fourth n)
       → lent r (second n) (fourth n) z ≡ filled c b (length w) t
-  sized_filled c b t r z room kept H f = rw (f, is) (filled-from c b w t r room kept H)
+  sized_filled c b t r z room kept H f = rw (f, is) (filled_from c b w t r room kept H)
 
   -- `finish` on a table x that is filled for the pieces of the word; p is the test of a piece
   module _ (p : List ℕ → Bool) (choice : ℕ) (t x : List ℕ) (short : length w ≤ limit) (room : rows * (length w + 1) ≤ length t)

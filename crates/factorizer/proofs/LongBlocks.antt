@@ -10,8 +10,8 @@ use lib.Dec.{T, leb→le, le→leb}
 use lib.ListN.{length}
 use Rattle.laws.proofs.Tests.{same_tests, test_fails, T_false}
 use Rattle.periods.specs.Period.{part, smallest_period, Repetition, repetition?, up_to}
-use Rattle.periods.proofs.InPlace.{PeriodIn, symbol, placed_part, period_piece, period_longer, part-period_in, part-period_out}
-use Rattle.periods.proofs.Claims.{smallest_period-is}
+use Rattle.periods.proofs.InPlace.{PeriodIn, symbol, placed_part, period_piece, period_longer, part_period_in, part_period_out}
+use Rattle.periods.proofs.Claims.{smallest_period_is}
 use Rattle.factorizer.specs.Piece.{piece?}
 use Rattle.factorizer.proofs.Pieces.{piece_sound, piece_complete}
 use Rattle.factorizer.proofs.Rules.{repetition_decides}
@@ -30,13 +30,13 @@ module _ (cap k : ℕ) (w : List ℕ) where
   pub block_periodic : (i x : ℕ) → T (held i x) → (x ≤ length w) × Periodic cap w i x
   block_periodic i x h =
       let K = piece_sound (Repetition (up_to cap) k) (repetition? (up_to cap) k) (repetition_decides (up_to cap) k) w i x h in
-      (K.0, record { period = K.1.period; low = leb→le K.1.period cap K.1.permitted; holds = part-period_in w i x K.1.period K.0 K.1.smallest.period })
+      (K.0, record { period = K.1.period; low = leb→le K.1.period cap K.1.permitted; holds = part_period_in w i x K.1.period K.0 K.1.smallest.period })
 
   periodic_block : (i x : ℕ) → x ≤ length w → i + k * cap ≤ x → i < x → Periodic cap w i x → T (held i x)
   periodic_block i x h l z P =
       let long = (placed_part w i x h).long in
-      let S = smallest_period-is (part w i x) (omega (arith, long)) in
-      let q : smallest_period (part w i x) ≤ cap = omega (arith, S.least P.period (part-period_out w i x P.period h P.holds), P.low) in
+      let S = smallest_period_is (part w i x) (omega (arith, long)) in
+      let q : smallest_period (part w i x) ≤ cap = omega (arith, S.least P.period (part_period_out w i x P.period h P.holds), P.low) in
       piece_complete (Repetition (up_to cap) k) (repetition? (up_to cap) k) (repetition_decides (up_to cap) k) w i x (
         h,
         record {
@@ -77,9 +77,9 @@ module _ (cap k : ℕ) (w : List ℕ) (two : 2 ≤ k) (j u : ℕ) (low : u ≤ c
     holds = period_longer (symbol w) i m P.period P.holds (e ∙ crossed P.period P.low P.holds);
   }
 
-  agrees-there : Periodic cap w i (suc m) → symbol w m ≡ symbol w (m - u)
+  agrees_there : Periodic cap w i (suc m) → symbol w m ≡ symbol w (m - u)
   unfolding shorter
-  agrees-there P =
+  agrees_there P =
       let Q = shorter P in
       let l = mul-le-mul_right cap two in
       sym (crossed Q.period Q.low Q.holds ∙ P.holds.same (m - P.period) (omega (arith, P.low, l)) (omega (arith, P.low, l)) ∙ ap (symbol w) (omega (arith, P.low, l)))
@@ -94,7 +94,7 @@ module _ (cap k : ℕ) (w : List ℕ) (two : 2 ≤ k) (j u : ℕ) (low : u ≤ c
 
   -- CLAIM: where it ends, so do they
   pub block_ends : (symbol w m ≡ symbol w (m - u) → ⊥) → held cap k w i (suc m) ≡ false
-  block_ends ne = test_fails (held cap k w i (suc m)) (λ t. ne (agrees-there (block_periodic cap k w i (suc m) t).1))
+  block_ends ne = test_fails (held cap k w i (suc m)) (λ t. ne (agrees_there (block_periodic cap k w i (suc m) t).1))
 
 -- CLAIM: a block that is longer than a window is one without its last symbol
 pub block_shorter : (cap k : ℕ) (w : List ℕ) → 2 ≤ k → 1 ≤ cap → (j i : ℕ) → i ≤ j → held cap k w i (j + k * cap) ≡ false → held cap k w i (suc (j + k * cap)) ≡ false

@@ -13,12 +13,12 @@ use lib.ListN.{length, get_or, set, length-set}
 use lib.Seq.{get_or-set_same, get_or-set_other, drop-set-lt}
 use Rattle.periods.specs.Period.{part, Period, repetition?, unit_memory, held_period}
 use Rattle.periods.specs.Edition.{Turns}
-use Rattle.periods.proofs.InPlace.{PeriodIn, symbol, period_piece, period_longer, part-period_in, part-period_out}
+use Rattle.periods.proofs.InPlace.{PeriodIn, symbol, period_piece, period_longer, part_period_in, part_period_out}
 use Rattle.factors.specs.Factorization.{Choice, Cell, unreachable, scan, cell}
 use Rattle.factors.specs.Table.{rows, Holds}
 use Rattle.factors.proofs.Optimal.{cell-suc}
 use Rattle.factors.proofs.TableLaws.{holds_same}
-use Rattle.factors.proofs.Filling.{scan-same, scan-nothing}
+use Rattle.factors.proofs.Filling.{scan_same, scan_nothing}
 use Rattle.factorizer.specs.Piece.{piece?}
 use Rattle.factorizer.specs.Window.{window_of, Windowed, RestKept, passed_on, lengthened}
 use Rattle.factorizer.proofs.LongBlocks.{block_goes_on, block_ends, block_shorter}
@@ -63,7 +63,7 @@ module _ (c : Choice) (k : ℕ) (turns : Turns k) (w : List ℕ) (j u : ℕ) (t 
     where
       there : suc j + window < length w → Held ⊎ None (suc m)
           → ((u ≤ unit_memory) × Period (part w (suc j) (suc j + window)) u) ⊎ None (suc j + window)
-      there h (inl (low, U)) = inl (low, part-period_out w (suc j) (suc j + window) u (omega arith) (subst (λ (x : ℕ). PeriodIn (symbol w) (suc j) x u) (sym step) U))
+      there h (inl (low, U)) = inl (low, part_period_out w (suc j) (suc j + window) u (omega arith) (subst (λ (x : ℕ). PeriodIn (symbol w) (suc j) x u) (sym step) U))
       there h (inr none) = inr (λ i l r. ap (b i) step ∙ none i l r)
 
       up : (x : ℕ) → x ≤ length w → x ≤ suc j → Dec (x ≤ j) → Holds r x (length w + 1 + x) (cell c b x)
@@ -82,7 +82,7 @@ module _ (c : Choice) (k : ℕ) (turns : Turns k) (w : List ℕ) (j u : ℕ) (t 
   stops : None (suc m) → Windowed c b w window (suc j) (suc j) u t
   stops none =
       next t S.upto S.near
-      (λ h. subst (λ (v : Cell). Holds t (suc m) (length w + 1 + suc m) v) (sym (scan-nothing c b (cell c b) (suc m) (suc j) none)) (S.far (suc m) (omega arith) (omega arith)))
+      (λ h. subst (λ (v : Cell). Holds t (suc m) (length w + 1 + suc m) v) (sym (scan_nothing c b (cell c b) (suc m) (suc j) none)) (S.far (suc m) (omega arith) (omega arith)))
       (λ x y z. S.far x y (omega arith)) (λ h. inr none)
 
   -- the word ends with the window, or before
@@ -103,8 +103,8 @@ module _ (c : Choice) (k : ℕ) (turns : Turns k) (w : List ℕ) (j u : ℕ) (t 
       r = passed_on (length w) m t
 
       same_cell : ((i : ℕ) → i < suc j → b i m ≡ b i (suc m)) ⊎ (None m × None (suc m)) → scan c b (cell c b) m (suc j) ≡ scan c b (cell c b) (suc m) (suc j)
-      same_cell (inl e) = scan-same c b (cell c b) m (suc m) (suc j) e
-      same_cell (inr (x, y)) = scan-nothing c b (cell c b) m (suc j) x ∙ sym (scan-nothing c b (cell c b) (suc m) (suc j) y)
+      same_cell (inl e) = scan_same c b (cell c b) m (suc m) (suc j) e
+      same_cell (inr (x, y)) = scan_nothing c b (cell c b) m (suc j) x ∙ sym (scan_nothing c b (cell c b) (suc m) (suc j) y)
 
       other : (x : ℕ) (v : Cell) → x ≤ length w → x ≢ m + 1 → Holds t x (length w + 1 + x) v → Holds r x (length w + 1 + x) v
       other x v y z H =
@@ -138,13 +138,13 @@ module _ (c : Choice) (k : ℕ) (turns : Turns k) (w : List ℕ) (j u : ℕ) (t 
 
     going : symbol w m ≡ symbol w (m - u) → ((u ≤ unit_memory) × Period (part w j m) u) ⊎ None m → Windowed c b w window (suc j) (suc j) u (passed_on (length w) m t)
     going e (inl (low, P)) =
-        let U = part-period_in w j m u (omega arith) P in
+        let U = part_period_in w j m u (omega arith) P in
         copies h (inl (λ i l. block_goes_on unit_memory k w turns.0 j u low U i (omega arith) h e))
         (inl (low, period_piece (symbol w) (period_longer (symbol w) j m u U e) (omega arith) (omega arith) (omega (arith, low, some_window))))
     going e (inr none) = copies h (inr (none, none_after none)) (inr (none_after none))
 
     ending : (symbol w m ≡ symbol w (m - u) → ⊥) → ((u ≤ unit_memory) × Period (part w j m) u) ⊎ None m → Windowed c b w window (suc j) (suc j) u t
-    ending ne (inl (low, P)) = stops (λ i l r. block_ends unit_memory k w turns.0 j u low (part-period_in w j m u (omega arith) P) i (omega arith) ne)
+    ending ne (inl (low, P)) = stops (λ i l r. block_ends unit_memory k w turns.0 j u low (part_period_in w j m u (omega arith) P) i (omega arith) ne)
     ending ne (inr none) = stops (none_after none)
 
   -- CLAIM: so what is known of boundary j after its offers, lengthening makes known of the next

@@ -30,8 +30,8 @@ pub square_decides : Decides Square square?
 square_decides = record { sound = square_sound; complete = square_complete; some = square_filled }
 
 -- CLAIM: within a window the length and the unit of a part decide whether it is a block: a unit that memory does not hold has not its turns there
-pub block_by-unit : (k : ℕ) → Turns k → (s : List ℕ) → 0 < length s → length s ≤ window_of k → leb (k * smallest_period s) (length s) ≡ repetition? held_period k s
-block_by-unit k turns s h l = sym (repetition_by_unit held_period k s h ∙ go (dec_le (smallest_period s) unit_memory))
+pub block_by_unit : (k : ℕ) → Turns k → (s : List ℕ) → 0 < length s → length s ≤ window_of k → leb (k * smallest_period s) (length s) ≡ repetition? held_period k s
+block_by_unit k turns s h l = sym (repetition_by_unit held_period k s h ∙ go (dec_le (smallest_period s) unit_memory))
   where
     go : Dec (smallest_period s ≤ unit_memory) → (leb (k * smallest_period s) (length s) && held_period (smallest_period s)) ≡ leb (k * smallest_period s) (length s)
     go (yes x) = rw (le-leb (smallest_period s) unit_memory x) (and-true (leb (k * smallest_period s) (length s)))

@@ -12,13 +12,13 @@ use lib.ListN.{length, get_or}
 use Rattle.answers.specs.Outcome.{limit}
 use Rattle.periods.specs.Period.{part, Period, smallest_period, repetition?, unit_memory, held_period}
 use Rattle.periods.specs.Edition.{Turns}
-use Rattle.periods.proofs.InPlace.{SmallestIn, symbol, part-period_in, part-period_out}
-use Rattle.periods.proofs.Claims.{part-smallest}
+use Rattle.periods.proofs.InPlace.{SmallestIn, symbol, part_period_in, part_period_out}
+use Rattle.periods.proofs.Claims.{part_smallest}
 use Rattle.factors.specs.Factorization.{Choice, Cell, unreachable, reached, offer, scan, cell}
 use Rattle.factors.specs.Table.{none, rows, Holds, spread}
-use Rattle.factors.proofs.Optimal.{size-bound, scan-unreachable}
+use Rattle.factors.proofs.Optimal.{size_bound, scan_unreachable}
 use Rattle.factors.proofs.TableLaws.{holds_none, holds_reached, holds_same}
-use Rattle.factors.proofs.Filling.{length-spread, spread-drop, spread-past, spread-outside, spread-inside}
+use Rattle.factors.proofs.Filling.{length-spread, spread-drop, spread_past, spread_outside, spread_inside}
 use Rattle.factorizer.specs.Piece.{piece?}
 use Rattle.factorizer.specs.Fill.{unit_at, ends_block}
 use Rattle.factorizer.specs.Window.{window_of, Windowed, RestKept}
@@ -51,7 +51,7 @@ module _ (c : Choice) (k : ℕ) (turns : Turns k) (w : List ℕ) (short : length
   pub visit_skips : get_or t j 0 ≡ none → Windowed c b w window (j + 1) j u t
   visit_skips e = rw (add-one j) record {
     upto = S.upto;
-    near = λ m h l x. subst (λ (v : Cell). Holds t m (length w + 1 + m) v) (sym (scan-unreachable c b (cell c b) m j none_there)) (S.near m h l x);
+    near = λ m h l x. subst (λ (v : Cell). Holds t m (length w + 1 + m) v) (sym (scan_unreachable c b (cell c b) m j none_there)) (S.near m h l x);
     far = S.far;
     fits = S.fits;
     known = λ h. go (S.known h);
@@ -88,7 +88,7 @@ module _ (c : Choice) (k : ℕ) (turns : Turns k) (w : List ℕ) (short : length
     reached_here = holds_reached t j (length w + 1 + j) (cell c b j) (S.upto j (omega arith) (omega arith)) ne
 
     size_small : suc (get_or t j 0) < none
-    size_small = omega (arith, size-bound c b j (get_or t j 0) reached_here.0 reached_here.1)
+    size_small = omega (arith, size_bound c b j (get_or t j 0) reached_here.0 reached_here.1)
 
     long : length l ≡ length t
     long = laid_long w j (j + len) t in_word room
@@ -100,7 +100,7 @@ module _ (c : Choice) (k : ℕ) (turns : Turns k) (w : List ℕ) (short : length
 
     outside : (m : ℕ) (v : Cell) → m ≤ length w → ((i : ℕ) → i < len → m ≢ j + (i + 1)) → Holds t m (length w + 1 + m) v → Holds after m (length w + 1 + m) v
     outside m v h o H =
-        rw (add-one (get_or t j 0)) (spread-outside c (length w) j (get_or t j 0) 0 ends l (omega (arith, long)) size_small len m v in_word h o (on_laid m v h H))
+        rw (add-one (get_or t j 0)) (spread_outside c (length w) j (get_or t j 0) 0 ends l (omega (arith, long)) size_small len m v in_word h o (on_laid m v h H))
 
     within : (i : ℕ) → j + i < length w → i < window → Holds after (j + (i + 1)) (length w + 1 + (j + (i + 1))) (scan c b (cell c b) (j + (i + 1)) (suc j))
     within i h x =
@@ -108,7 +108,7 @@ module _ (c : Choice) (k : ℕ) (turns : Turns k) (w : List ℕ) (short : length
         rw (add-one (get_or t j 0))
         (subst (λ (y : Cell). Holds (spread c (length w) j (suc (get_or t j 0)) ends len l) (j + (i + 1)) (length w + 1 + (j + (i + 1))) y)
         (ap₂ (λ (y : Bool) (z : Cell). offer c j v y z) (laid_decides w j (j + len) t in_word room k turns i (omega arith) x) (sym reached_here.1))
-        (spread-inside c (length w) j (get_or t j 0) reached_here.0 ends l (omega (arith, long)) size_small len i v in_word (omega arith)
+        (spread_inside c (length w) j (get_or t j 0) reached_here.0 ends l (omega (arith, long)) size_small len i v in_word (omega arith)
         (on_laid (j + (i + 1)) v (omega arith) (S.near (j + (i + 1)) (omega arith) (omega arith) (omega arith)))))
 
     pub visit_kept : RestKept (length w) t after
@@ -121,12 +121,12 @@ module _ (c : Choice) (k : ℕ) (turns : Turns k) (w : List ℕ) (short : length
     unit_read : unit_at (length w) after (len - 1) ≡ smallest_period (part w j (j + len))
     unit_read =
         let e : j + (len - 1 + 1) ≡ j + len = omega (arith, some_window) in
-        spread-past c (length w) j (get_or t j 0 + 1) ends l len (length w + 1 + (length w + 1) + (len - 1)) in_word (omega arith)
+        spread_past c (length w) j (get_or t j 0 + 1) ends l len (length w + 1 + (length w + 1) + (len - 1)) in_word (omega arith)
         ∙ laid_unit w j (j + len) t in_word room (len - 1) (omega (arith, some_window))
         ∙ ap (λ (z : ℕ). smallest_period (part w j z)) e
 
     unit_fits : unit_at (length w) after (len - 1) ≤ len
-    unit_fits = omega (arith, unit_read, (part-smallest w j (j + len) in_word (omega (arith, some_window))).period.fits)
+    unit_fits = omega (arith, unit_read, (part_smallest w j (j + len) in_word (omega (arith, some_window))).period.fits)
 
     -- where symbols follow the window
     module _ (whole : j + window < length w) where
@@ -134,18 +134,18 @@ module _ (c : Choice) (k : ℕ) (turns : Turns k) (w : List ℕ) (short : length
       unit_smallest =
           let e : j + len ≡ j + window = omega arith in
           subst (SmallestIn (symbol w) j (j + window)) (sym (unit_read ∙ ap (λ (z : ℕ). smallest_period (part w j z)) e))
-          (part-smallest w j (j + window) (omega arith) (omega (arith, some_window)))
+          (part_smallest w j (j + window) (omega arith) (omega (arith, some_window)))
 
       -- memory does not hold the unit: then it holds no period of the window, and no block reaches the end
       none_ends : unit_memory < unit_at (length w) after (len - 1) → None (suc j)
       none_ends above = one_more (λ r. window_no_block k w j (λ p P. omega (arith, unit_smallest.least p P))) (go (S.known whole))
         where
           go : Held u ⊎ None j → None j
-          go (inl U) = absurd (omega (arith, U.0, unit_smallest.least u (part-period_in w j (j + window) u (omega arith) U.1)))
+          go (inl U) = absurd (omega (arith, U.0, unit_smallest.least u (part_period_in w j (j + window) u (omega arith) U.1)))
           go (inr none) = none
 
       unit_known : Dec (unit_at (length w) after (len - 1) ≤ unit_memory) → Held (unit_at (length w) after (len - 1)) ⊎ None (suc j)
-      unit_known (yes held) = inl (held, part-period_out w j (j + window) (unit_at (length w) after (len - 1)) (omega arith) unit_smallest.period)
+      unit_known (yes held) = inl (held, part_period_out w j (j + window) (unit_at (length w) after (len - 1)) (omega arith) unit_smallest.period)
       unit_known (no above) = inr (none_ends (omega arith))
 
     pub visit_offers : Windowed c b w window (j + 1) j (unit_at (length w) after (len - 1)) after

@@ -10,8 +10,8 @@ use native.Mathlib.Nat.{suc-mul}
 use lib.ListN.{length, length-append}
 use Rattle.factors.specs.Factorization.{Chain, Factorization, size, block_lengths}
 
-pub length-snoc : (x : List ℕ) (m : ℕ) → length (x ++ m ∷ []) ≡ suc (length x)
-length-snoc x m = length-append x (m ∷ []) ∙ omega arith
+pub length_snoc : (x : List ℕ) (m : ℕ) → length (x ++ m ∷ []) ≡ suc (length x)
+length_snoc x m = length-append x (m ∷ []) ∙ omega arith
 
 module _ (B : ℕ → ℕ → Type 0) where
   -- a chain up to j and a block from j to m
@@ -57,8 +57,8 @@ module _ (B : ℕ → ℕ → Type 0) where
   chain_long d long i (e ∷ es) m h = omega (arith, suc-mul (size es) d, long i e h.0, chain_long d long e es m h.1)
 
   -- with two symbols or more a block, a factorization of the first m symbols has at most m / 2 blocks, rounded down
-  pub size-half : ((i j : ℕ) → B i j → i + 2 ≤ j) → (m : ℕ) (es : List ℕ) → Factorization B m es → size es ≤ m / 2
-  size-half two m es h = omega (arith, chain_long 2 two 0 es m h)
+  pub size_half : ((i j : ℕ) → B i j → i + 2 ≤ j) → (m : ℕ) (es : List ℕ) → Factorization B m es → size es ≤ m / 2
+  size_half two m es h = omega (arith, chain_long 2 two 0 es m h)
 
   module _ (up : (i j : ℕ) → B i j → i < j) where
     -- each block takes a symbol or more
@@ -69,8 +69,8 @@ module _ (B : ℕ → ℕ → Type 0) where
     chain_le i es m h = omega (arith, chain_size i es m h)
 
     -- a factorization of the first m symbols has at most m blocks
-    pub size-le : (m : ℕ) (es : List ℕ) → Factorization B m es → size es ≤ m
-    size-le m es h = omega (arith, chain_size 0 es m h)
+    pub size_le : (m : ℕ) (es : List ℕ) → Factorization B m es → size es ≤ m
+    size_le m es h = omega (arith, chain_size 0 es m h)
 
     -- each block of a chain up to m goes up and ends at m or before
     pub chain_within : (i : ℕ) (es : List ℕ) (m : ℕ) → Chain B i es m → Chain (λ a b. (a < b) × (b ≤ m) × B a b) i es m

@@ -1,6 +1,6 @@
 -- The computed factorization is the best one. Cells that satisfy the recurrence (Bellman) hold the best size of every prefix, and the way back over the
 -- previous boundaries gives the factorization that wins the tie: by induction on the prefix, with the last block taken off (optimal). The scan satisfies the
--- recurrence, since it takes the first strictly better candidate in rising order (scan-says), so the computed cells do. Hence best_factorization, for every
+-- recurrence, since it takes the first strictly better candidate in rising order (scan_says), so the computed cells do. Hence best_factorization, for every
 -- relation of blocks that a test decides and whose blocks go up. Also: a best factorization is one only, the size is at most the prefix, and the scan reads no
 -- more than sizes. Assumes nothing.
 use mathlib.Core.Path.{◌≡◌, refl, sym, ap, ap₂, ◌∙◌, subst, subst₂}
@@ -15,7 +15,7 @@ use lib.ListN.{length, get_or, length-append, get_or-append}
 use lib.Seq.{get_or_at}
 use borrow.Author.Tests.{ltb-true, ltb-false}
 use Rattle.factors.specs.Factorization.{Factorization, size, Choice, smallest, largest, AsGood, block_lengths, FirstGreater, LongerFromEnd, Best, better, Cell, unreachable, reached, offer, scan, cells, cell, follow, ends_from, best_ends}
-use Rattle.factors.proofs.Chains.{length-snoc, chain_snoc, Last, chain_last, lengths_back, chain_map}
+use Rattle.factors.proofs.Chains.{length_snoc, chain_snoc, Last, chain_last, lengths_back, chain_map}
 
 -- what the cell of boundary m and the ends computed for it say: that no factorization of the first m symbols exists, or the best size with the best
 -- factorization
@@ -197,7 +197,7 @@ module _ (c : Choice) (b : ℕ → ℕ → Bool) where
         rw (ends_reached d m S.before p (e ∙ ap (λ (x : ℕ). reached x p) S.grown))
         record {
           factorization = chain_snoc Test 0 (ends_from table d p) p m P.factorization S.block;
-          sized = length-snoc (ends_from table d p) m ∙ ap suc P.sized ∙ sym S.grown;
+          sized = length_snoc (ends_from table d p) m ∙ ap suc P.sized ∙ sym S.grown;
           best = λ fs k. best fs (chain_last Test 0 fs m k);
           wins = λ fs k l. wins fs l (chain_last Test 0 fs m k);
         }
@@ -215,14 +215,14 @@ module _ (c : Choice) (b : ℕ → ℕ → Bool) where
             let u : l.boundary < m = up l.boundary m l.block in
             let K = known l.boundary u l.front l.chain (table l.boundary) refl in
             as_good_trans c s (suc K.0) (size fs) (S.good l.boundary K.0 K.1 u l.block K.2)
-            (rw (l.is, length-snoc) (as_good_suc c K.0 (size l.front) (K.3.best l.front l.chain)))
+            (rw (l.is, length_snoc) (as_good_suc c K.0 (size l.front) (K.3.best l.front l.chain)))
 
         wins : (fs : List ℕ) → size fs ≡ s → ((fs ≡ []) × (0 ≡ m)) ⊎ Last Test 0 fs m → Wins (ends_from table d p ++ m ∷ []) fs
         wins fs w (inl v) = absurd (omega arith)
         wins fs w (inr l) =
             subst (λ (x : List ℕ). Wins (ends_from table d p ++ m ∷ []) x) (sym l.is)
             (tie Test (ends_from table d p) l.front S.before m p l.boundary P.factorization P.wins l.chain
-            (omega (arith, S.grown, ap length l.is, length-snoc l.front m)) lowest u)
+            (omega (arith, S.grown, ap length l.is, length_snoc l.front m)) lowest u)
           where
             u : l.boundary < m
             u = up l.boundary m l.block
@@ -233,7 +233,7 @@ module _ (c : Choice) (b : ℕ → ℕ → Bool) where
                 S.first l.boundary K.0 K.1 x l.block K.2
                 (S.grown ∙ ap suc (as_good_antisym c S.before K.0
                 (as_good_pred c S.before K.0 (rw S.grown at (S.good l.boundary K.0 K.1 u l.block K.2)))
-                (subst (λ (x : ℕ). AsGood c K.0 x) (omega (arith, S.grown, ap length l.is, length-snoc l.front m)) (K.3.best l.front l.chain))))
+                (subst (λ (x : ℕ). AsGood c K.0 x) (omega (arith, S.grown, ap length l.is, length_snoc l.front m)) (K.3.best l.front l.chain))))
 
     every : (d m : ℕ) → m < d → Claim table m (table m)
     every zero m h = absurd (omega arith)
@@ -261,8 +261,8 @@ module _ (c : Choice) (b : ℕ → ℕ → Bool) where
       go (no x) = inr (omega arith)
 
   module _ (table : ℕ → Cell) (m : ℕ) where
-    step-keep : (s p k : ℕ) → Step table m s p k → ((t r : ℕ) → Test k m → table k ≡ reached t r → AsGood c s (suc t)) → Step table m s p (suc k)
-    step-keep s p k S h = record {
+    step_keep : (s p k : ℕ) → Step table m s p k → ((t r : ℕ) → Test k m → table k ≡ reached t r → AsGood c s (suc t)) → Step table m s p (suc k)
+    step_keep s p k S h = record {
       below = omega (arith, S.below);
       block = S.block;
       before = S.before;
@@ -277,9 +277,9 @@ module _ (c : Choice) (b : ℕ → ℕ → Bool) where
         good j t r (inl x) = S.good j t r x
         good j t r (inr x) = subst (λ (i : ℕ). Test i m → table i ≡ reached t r → AsGood c s (suc t)) (sym x) (h t r)
 
-    step-new : (s q k : ℕ) → Test k m → table k ≡ reached s q
+    step_new : (s q k : ℕ) → Test k m → table k ≡ reached s q
         → ((j t r : ℕ) → j < k → Test j m → table j ≡ reached t r → AsGood c (suc s) (suc t) × (suc s ≢ suc t)) → Step table m (suc s) k (suc k)
-    step-new s q k x e h = record {
+    step_new s q k x e h = record {
       below = omega arith;
       block = x;
       before = s;
@@ -302,46 +302,46 @@ module _ (c : Choice) (b : ℕ → ℕ → Bool) where
         go (inl x) = S j x
         go (inr x) = subst (λ (i : ℕ). Test i m → table i ≡ unreachable) (sym x) h
 
-    offer-says : (k : ℕ) (known : Cell) → Says table m k known → (t : Bool) → b k m ≡ t → (v : Cell) → table k ≡ v → Says table m (suc k) (offer c k known t v)
-    offer-says k unreachable S false e v z = none_keep k S (λ x. absurd (subst T e x))
-    offer-says k (reached s₀ q₀) S false e v z = step-keep s₀ q₀ k S (λ t r x. absurd (subst T e x))
-    offer-says k unreachable S true e unreachable z = none_keep k S (λ x. z)
-    offer-says k (reached s₀ q₀) S true e unreachable z = step-keep s₀ q₀ k S (λ t r x y. absurd (unreachable_reached (table k) t r z y))
-    offer-says k unreachable S true e (reached s q) z =
-        step-new s q k (subst T (sym e) tt) z (λ j t r l x y. absurd (unreachable_reached (table j) t r (S j l x) y))
-    offer-says k (reached s₀ q₀) S true e (reached s q) z = go (better c (suc s) s₀) refl
+    offer_says : (k : ℕ) (known : Cell) → Says table m k known → (t : Bool) → b k m ≡ t → (v : Cell) → table k ≡ v → Says table m (suc k) (offer c k known t v)
+    offer_says k unreachable S false e v z = none_keep k S (λ x. absurd (subst T e x))
+    offer_says k (reached s₀ q₀) S false e v z = step_keep s₀ q₀ k S (λ t r x. absurd (subst T e x))
+    offer_says k unreachable S true e unreachable z = none_keep k S (λ x. z)
+    offer_says k (reached s₀ q₀) S true e unreachable z = step_keep s₀ q₀ k S (λ t r x y. absurd (unreachable_reached (table k) t r z y))
+    offer_says k unreachable S true e (reached s q) z =
+        step_new s q k (subst T (sym e) tt) z (λ j t r l x y. absurd (unreachable_reached (table j) t r (S j l x) y))
+    offer_says k (reached s₀ q₀) S true e (reached s q) z = go (better c (suc s) s₀) refl
       where
         go : (u : Bool) → better c (suc s) s₀ ≡ u → Says table m (suc k) (cond u (reached (suc s) k) (reached s₀ q₀))
         go true w =
             let v = better_true c (suc s) s₀ w in
-            step-new s q k (subst T (sym e) tt) z (λ j t r l x y. (
+            step_new s q k (subst T (sym e) tt) z (λ j t r l x y. (
               as_good_trans c (suc s) s₀ (suc t) v.0 (S.good j t r l x y),
               λ a. v.1 (as_good_antisym c (suc s) s₀ v.0 (subst (λ (n : ℕ). AsGood c s₀ n) (sym a) (S.good j t r l x y))),
             ))
         go false w =
-            step-keep s₀ q₀ k S (λ t r x y. subst (λ (n : ℕ). AsGood c s₀ (suc n)) (reached_same (table k) s q t r z y).0 (better_false c (suc s) s₀ w))
+            step_keep s₀ q₀ k S (λ t r x y. subst (λ (n : ℕ). AsGood c s₀ (suc n)) (reached_same (table k) s q t r z y).0 (better_false c (suc s) s₀ w))
 
-    pub scan-says : (k : ℕ) → Says table m k (scan c b table m k)
-    scan-says zero = λ j l. absurd (omega arith)
-    scan-says (suc k) = offer-says k (scan c b table m k) (scan-says k) (b k m) refl (table k) refl
+    pub scan_says : (k : ℕ) → Says table m k (scan c b table m k)
+    scan_says zero = λ j l. absurd (omega arith)
+    scan_says (suc k) = offer_says k (scan c b table m k) (scan_says k) (b k m) refl (table k) refl
 
     -- ---- the scan, one candidate at a time
 
-    pub scan-more : (j : ℕ) → scan c b table m (suc j) ≡ offer c j (scan c b table m j) (b j m) (table j)
-    scan-more j = refl
+    pub scan_more : (j : ℕ) → scan c b table m (suc j) ≡ offer c j (scan c b table m j) (b j m) (table j)
+    scan_more j = refl
 
-    pub scan-no_block : (j : ℕ) → b j m ≡ false → scan c b table m (suc j) ≡ scan c b table m j
-    scan-no_block j e = rw e
+    pub scan_no_block : (j : ℕ) → b j m ≡ false → scan c b table m (suc j) ≡ scan c b table m j
+    scan_no_block j e = rw e
 
-    pub scan-unreachable : (j : ℕ) → table j ≡ unreachable → scan c b table m (suc j) ≡ scan c b table m j
-    scan-unreachable j e = go (b j m) (table j) e
+    pub scan_unreachable : (j : ℕ) → table j ≡ unreachable → scan c b table m (suc j) ≡ scan c b table m j
+    scan_unreachable j e = go (b j m) (table j) e
       where
         go : (t : Bool) (v : Cell) → v ≡ unreachable → offer c j (scan c b table m j) t v ≡ scan c b table m j
         go false v e = refl
         go true v e = rw e
 
-    pub scan-block : (j s q : ℕ) → b j m ≡ true → table j ≡ reached s q → scan c b table m (suc j) ≡ offer c j (scan c b table m j) true (reached s q)
-    scan-block j s q e z = ap₂ (λ (t : Bool) (v : Cell). offer c j (scan c b table m j) t v) e z
+    pub scan_block : (j s q : ℕ) → b j m ≡ true → table j ≡ reached s q → scan c b table m (suc j) ≡ offer c j (scan c b table m j) true (reached s q)
+    scan_block j s q e z = ap₂ (λ (t : Bool) (v : Cell). offer c j (scan c b table m j) t v) e z
 
   -- ---- the scan reads the cells below only, and only their sizes
 
@@ -360,8 +360,8 @@ module _ (c : Choice) (b : ℕ → ℕ → Bool) where
       ap (λ (x : Cell). offer c k x (b k m) (table k)) (scan-size table other m k (λ j l. h j (omega arith)))
       ∙ offer-size k (scan c b other m k) (b k m) (table k) (other k) (h k (omega arith))
 
-  pub scan-cong : (table other : ℕ → Cell) (m k : ℕ) → ((j : ℕ) → j < k → table j ≡ other j) → scan c b table m k ≡ scan c b other m k
-  scan-cong table other m k h = scan-size table other m k (λ j l. same_size (table j) (other j) (h j l))
+  pub scan_cong : (table other : ℕ → Cell) (m k : ℕ) → ((j : ℕ) → j < k → table j ≡ other j) → scan c b table m k ≡ scan c b other m k
+  scan_cong table other m k h = scan-size table other m k (λ j l. same_size (table j) (other j) (h j l))
 
   -- ---- the computed cells
 
@@ -387,18 +387,18 @@ module _ (c : Choice) (b : ℕ → ℕ → Bool) where
   cell-suc n =
       sym (cells_at (suc n) (suc n) (omega arith))
       ∙ get_or_at (cells c b n) (scan c b (λ j. get_or (cells c b n) j unreachable) (suc n) (suc n)) [] unreachable (suc n) (length-cells n)
-      ∙ scan-cong (λ j. get_or (cells c b n) j unreachable) (cell c b) (suc n) (suc n) (λ j l. cells_at n j (omega arith))
+      ∙ scan_cong (λ j. get_or (cells c b n) j unreachable) (cell c b) (suc n) (suc n) (λ j l. cells_at n j (omega arith))
 
-  pub cells-bellman : Bellman (cell c b)
-  cells-bellman = record { start = cell-zero; says = says }
+  pub cells_bellman : Bellman (cell c b)
+  cells_bellman = record { start = cell-zero; says = says }
     where
       says : (m : ℕ) → 0 < m → Says (cell c b) m m (cell c b m)
       says zero h = absurd (omega arith)
-      says (suc n) h = subst (λ (v : Cell). Says (cell c b) (suc n) (suc n) v) (sym (cell-suc n)) (scan-says (cell c b) (suc n) (suc n))
+      says (suc n) h = subst (λ (v : Cell). Says (cell c b) (suc n) (suc n) v) (sym (cell-suc n)) (scan_says (cell c b) (suc n) (suc n))
 
   -- the previous boundary of one that is reached
   pub reached_step : (m s p : ℕ) → 0 < m → cell c b m ≡ reached s p → Step (cell c b) m s p m
-  reached_step m s p z e = subst (λ (v : Cell). Says (cell c b) m m v) e (cells-bellman.says m z)
+  reached_step m s p z e = subst (λ (v : Cell). Says (cell c b) m m v) e (cells_bellman.says m z)
 
   -- and of one that is reached with a block or more: it is lower, its piece is a block, and it is reached with one block less
   pub reached_suc : (m s p : ℕ) → cell c b m ≡ reached (suc s) p → (0 < m) × (p < m) × T (b p m) × ((q : ℕ) × (cell c b p ≡ reached s q))
@@ -420,8 +420,8 @@ module _ (c : Choice) (b : ℕ → ℕ → Bool) where
       go (no z) = absurd (omega (arith, (reached_step m 0 p (omega arith) e).grown))
 
   -- a size is at most the length of the prefix
-  pub size-bound : (m s p : ℕ) → cell c b m ≡ reached s p → s ≤ m
-  size-bound m s p e = bound (suc m) m s p (omega arith) e
+  pub size_bound : (m s p : ℕ) → cell c b m ≡ reached s p → s ≤ m
+  size_bound m s p e = bound (suc m) m s p (omega arith) e
     where
       bound : (d m s p : ℕ) → m < d → cell c b m ≡ reached s p → s ≤ m
       bound zero m s p l e = absurd (omega arith)
@@ -445,7 +445,7 @@ module _ (c : Choice) (b : ℕ → ℕ → Bool) where
 -- the theorem: for a test that decides the relation of blocks, and blocks that go up
 pub best_factorization : (c : Choice) (b : ℕ → ℕ → Bool) (B : ℕ → ℕ → Type 0) (to : (i j : ℕ) → T (b i j) → B i j) (of : (i j : ℕ) → B i j → T (b i j)) (up : (i j : ℕ) → T (b i j) → i < j)
     → (m : ℕ) → Answers c B m (cell c b m) (best_ends c b m)
-best_factorization c b B to of up m = go (cell c b m) (optimal c b up (cell c b) (cells-bellman c b) m)
+best_factorization c b B to of up m = go (cell c b m) (optimal c b up (cell c b) (cells_bellman c b) m)
   where
     back : (fs : List ℕ) → Factorization B m fs → Factorization (Test c b) m fs
     back fs k = chain_map B (Test c b) of 0 fs m k

@@ -16,7 +16,7 @@ use borrow.Author.Tests.{ne_eqb}
 use Rattle.factors.specs.Factorization.{Choice, better, Cell, unreachable, reached, offer, cells, cell, follow, ends_from, best_ends}
 use Rattle.factors.specs.Table.{none, size_in, previous_in, Holds, sizes, previous, started, taken, offered, ends_back, Linked}
 use Rattle.factors.specs.Verdict.{end_of}
-use Rattle.factors.proofs.Chains.{length-snoc}
+use Rattle.factors.proofs.Chains.{length_snoc}
 use Rattle.factors.proofs.Optimal.{reached_same, reached_suc, reached_zero, best_ends_lem, length-cells, cells_at}
 
 -- ---- row 0 before any offer
@@ -31,16 +31,16 @@ module _ (n : ℕ) (t : List ℕ) where
   unfolding started
   started-zero = refl
 
-  pub started-within : (k : ℕ) → 1 ≤ k → k ≤ n → get_or (started n t) k 0 ≡ none
+  pub started_within : (k : ℕ) → 1 ≤ k → k ≤ n → get_or (started n t) k 0 ≡ none
   unfolding started
-  started-within zero a b = absurd (omega arith)
-  started-within (suc k) a b =
+  started_within zero a b = absurd (omega arith)
+  started_within (suc k) a b =
       get_or-append (replicate n none) (drop (suc n) t) 0 k (omega (arith, length-replicate n none)) ∙ get_or-replicate n k none 0 (omega arith)
 
-  pub started-past : (k : ℕ) → n < k → get_or (started n t) k 0 ≡ get_or t k 0
+  pub started_past : (k : ℕ) → n < k → get_or (started n t) k 0 ≡ get_or t k 0
   unfolding started
-  started-past zero a = absurd (omega arith)
-  started-past (suc k) a =
+  started_past zero a = absurd (omega arith)
+  started_past (suc k) a =
       let e : k ≡ length (replicate n none) + (k - n) = omega (arith, length-replicate n none) in
       ap (λ (i : ℕ). get_or (replicate n none ++ drop (suc n) t) i 0) e
       ∙ get_or-append-add (replicate n none) (drop (suc n) t) (k - n) 0
@@ -64,27 +64,27 @@ unfolding started
 started_none [] h = absurd (omega arith)
 started_none (x ∷ t) h = refl
 
-pub started-more : (i : ℕ) (t : List ℕ) → 1 ≤ i → i < length t → set (started (i - 1) t) i none ≡ started ((i + 1) - 1) t
+pub started_more : (i : ℕ) (t : List ℕ) → 1 ≤ i → i < length t → set (started (i - 1) t) i none ≡ started ((i + 1) - 1) t
 unfolding started
-started-more zero t a b = absurd (omega arith)
-started-more (suc i) [] a b = absurd (omega arith)
-started-more (suc i) (x ∷ t) a b =
+started_more zero t a b = absurd (omega arith)
+started_more (suc i) [] a b = absurd (omega arith)
+started_more (suc i) (x ∷ t) a b =
     rw (add-one, sub-one, sub-one) (ap (λ (l : List ℕ). 0 ∷ l) (fill_more i none t (omega arith) ∙ rw add-one))
 
-pub started-over : (n : ℕ) (t : List ℕ) → started n (set t 0 0) ≡ started n t
+pub started_over : (n : ℕ) (t : List ℕ) → started n (set t 0 0) ≡ started n t
 unfolding started
-started-over n t = rw (drop-set-lt (suc n) t 0 0 (omega arith))
+started_over n t = rw (drop-set-lt (suc n) t 0 0 (omega arith))
 
 -- ---- an offer
 
 module _ (c : Choice) (at back s j : ℕ) (t : List ℕ) where
-  pub offered-takes : taken c s (get_or t at 0) ≡ true → offered c at back s j t ≡ set (set t at s) back j
+  pub offered_takes : taken c s (get_or t at 0) ≡ true → offered c at back s j t ≡ set (set t at s) back j
   unfolding offered
-  offered-takes e = ap (λ (u : Bool). cond u (set (set t at s) back j) t) e
+  offered_takes e = ap (λ (u : Bool). cond u (set (set t at s) back j) t) e
 
-  pub offered-keeps : taken c s (get_or t at 0) ≡ false → offered c at back s j t ≡ t
+  pub offered_keeps : taken c s (get_or t at 0) ≡ false → offered c at back s j t ≡ t
   unfolding offered
-  offered-keeps e = ap (λ (u : Bool). cond u (set (set t at s) back j) t) e
+  offered_keeps e = ap (λ (u : Bool). cond u (set (set t at s) back j) t) e
 
   pub length-offered : length (offered c at back s j t) ≡ length t
   unfolding offered
@@ -94,25 +94,25 @@ module _ (c : Choice) (at back s j : ℕ) (t : List ℕ) where
       go true = length-set (set t at s) back j ∙ length-set t at s
       go false = refl
 
-  pub offered-at : at ≢ back → at < length t → get_or (offered c at back s j t) at 0 ≡ cond (taken c s (get_or t at 0)) s (get_or t at 0)
+  pub offered_at : at ≢ back → at < length t → get_or (offered c at back s j t) at 0 ≡ cond (taken c s (get_or t at 0)) s (get_or t at 0)
   unfolding offered
-  offered-at n h = go (taken c s (get_or t at 0))
+  offered_at n h = go (taken c s (get_or t at 0))
     where
       go : (u : Bool) → get_or (cond u (set (set t at s) back j) t) at 0 ≡ cond u s (get_or t at 0)
       go true = get_or-set_other (set t at s) back at j 0 n ∙ get_or-set_same t at s 0 h
       go false = refl
 
-  pub offered-back : back < length t → get_or (offered c at back s j t) back 0 ≡ cond (taken c s (get_or t at 0)) j (get_or t back 0)
+  pub offered_back : back < length t → get_or (offered c at back s j t) back 0 ≡ cond (taken c s (get_or t at 0)) j (get_or t back 0)
   unfolding offered
-  offered-back h = go (taken c s (get_or t at 0))
+  offered_back h = go (taken c s (get_or t at 0))
     where
       go : (u : Bool) → get_or (cond u (set (set t at s) back j) t) back 0 ≡ cond u j (get_or t back 0)
       go true = get_or-set_same (set t at s) back j 0 (omega (arith, length-set t at s))
       go false = refl
 
-  pub offered-other : (k : ℕ) → k ≢ at → k ≢ back → get_or (offered c at back s j t) k 0 ≡ get_or t k 0
+  pub offered_other : (k : ℕ) → k ≢ at → k ≢ back → get_or (offered c at back s j t) k 0 ≡ get_or t k 0
   unfolding offered
-  offered-other k x y = go (taken c s (get_or t at 0))
+  offered_other k x y = go (taken c s (get_or t at 0))
     where
       go : (u : Bool) → get_or (cond u (set (set t at s) back j) t) k 0 ≡ get_or t k 0
       go true = get_or-set_other (set t at s) back k j 0 y ∙ get_or-set_other t at k s 0 x
@@ -149,20 +149,20 @@ module _ (c : Choice) (at back s j : ℕ) (t : List ℕ) where
 
       by : (known : Cell) → Holds t at back known → Holds (offered c at back (suc s) j t) at back (offer c j known true (reached s q))
       by unreachable H =
-          subst (λ (u : List ℕ). Holds u at back (reached (suc s) j)) (sym (offered-takes c at back (suc s) j t (ap (taken c (suc s)) H.size))) put
+          subst (λ (u : List ℕ). Holds u at back (reached (suc s) j)) (sym (offered_takes c at back (suc s) j t (ap (taken c (suc s)) H.size))) put
       by (reached s₀ q₀) H = go (better c (suc s) s₀) refl
         where
           test : taken c (suc s) (get_or t at 0) ≡ better c (suc s) s₀
           test = ap (taken c (suc s)) H.size ∙ ap (λ (u : Bool). u || better c (suc s) s₀) (ne_eqb s₀ none (λ e. omega (arith, H.bound s₀ q₀ refl)))
 
           go : (u : Bool) → better c (suc s) s₀ ≡ u → Holds (offered c at back (suc s) j t) at back (cond u (reached (suc s) j) (reached s₀ q₀))
-          go true e = subst (λ (u : List ℕ). Holds u at back (reached (suc s) j)) (sym (offered-takes c at back (suc s) j t (test ∙ e))) put
-          go false e = subst (λ (u : List ℕ). Holds u at back (reached s₀ q₀)) (sym (offered-keeps c at back (suc s) j t (test ∙ e))) H
+          go true e = subst (λ (u : List ℕ). Holds u at back (reached (suc s) j)) (sym (offered_takes c at back (suc s) j t (test ∙ e))) put
+          go false e = subst (λ (u : List ℕ). Holds u at back (reached s₀ q₀)) (sym (offered_keeps c at back (suc s) j t (test ∙ e))) H
 
   -- the places of the other boundaries hold what they held
-  pub offered-others : (at' back' : ℕ) (v : Cell) → at' ≢ at → at' ≢ back → back' ≢ at → back' ≢ back → Holds t at' back' v → Holds (offered c at back s j t) at' back' v
-  offered-others at' back' v x y z w H =
-      holds_same t at' back' (offered c at back s j t) v (offered-other c at back s j t at' x y) (offered-other c at back s j t back' z w) H
+  pub offered_others : (at' back' : ℕ) (v : Cell) → at' ≢ at → at' ≢ back → back' ≢ at → back' ≢ back → Holds t at' back' v → Holds (offered c at back s j t) at' back' v
+  offered_others at' back' v x y z w H =
+      holds_same t at' back' (offered c at back s j t) v (offered_other c at back s j t at' x y) (offered_other c at back s j t back' z w) H
 
 -- ---- the way back
 
@@ -224,17 +224,17 @@ module _ (c : Choice) (b : ℕ → ℕ → Bool) (n : ℕ) where
       ext_get_or 0 r (map f (cells c b n)) (l ∙ sym (length-map (cells c b n) f ∙ length-cells c b n))
       (λ i k. h i (omega arith) ∙ sym (row_at f i (omega arith)))
 
-  pub sizes-are : (r : List ℕ) → length r ≡ suc n → ((k : ℕ) → k ≤ n → get_or r k 0 ≡ size_in (cell c b k)) → r ≡ sizes c b n
+  pub sizes_are : (r : List ℕ) → length r ≡ suc n → ((k : ℕ) → k ≤ n → get_or r k 0 ≡ size_in (cell c b k)) → r ≡ sizes c b n
   unfolding sizes
-  sizes-are r l h = row_is size_in r l h
+  sizes_are r l h = row_is size_in r l h
 
-  pub previous-are : (r : List ℕ) → length r ≡ suc n → ((k : ℕ) → k ≤ n → get_or r k 0 ≡ previous_in (cell c b k)) → r ≡ previous c b n
+  pub previous_are : (r : List ℕ) → length r ≡ suc n → ((k : ℕ) → k ≤ n → get_or r k 0 ≡ previous_in (cell c b k)) → r ≡ previous c b n
   unfolding previous
-  previous-are r l h = row_is previous_in r l h
+  previous_are r l h = row_is previous_in r l h
 
-  pub sizes-at : (k : ℕ) → k ≤ n → get_or (sizes c b n) k 0 ≡ size_in (cell c b k)
+  pub sizes_at : (k : ℕ) → k ≤ n → get_or (sizes c b n) k 0 ≡ size_in (cell c b k)
   unfolding sizes
-  sizes-at k h = row_at size_in k h
+  sizes_at k h = row_at size_in k h
 
   pub previous-agrees : Agrees c b (previous c b n) n
   unfolding previous
@@ -272,33 +272,33 @@ linked_step prev (suc count) j n h = linked_more prev (suc count) j (omega arith
 pub length-ends_back : (prev : List ℕ) (count j : ℕ) → length (ends_back prev count j) ≡ count
 unfolding ends_back
 length-ends_back prev zero j = refl
-length-ends_back prev (suc count) j = length-snoc (ends_back prev count (get_or prev j 0)) j ∙ ap suc (length-ends_back prev count (get_or prev j 0))
+length-ends_back prev (suc count) j = length_snoc (ends_back prev count (get_or prev j 0)) j ∙ ap suc (length-ends_back prev count (get_or prev j 0))
 
 pub ends_back-zero : (prev : List ℕ) (j : ℕ) → ends_back prev 0 j ≡ []
 unfolding ends_back
 ends_back-zero prev j = refl
 
 -- the last end stored, then the ends up to the previous boundary written before it
-pub ends_back-more : (prev E : List ℕ) (count j : ℕ) → 0 < count → count ≤ length E
+pub ends_back_more : (prev E : List ℕ) (count j : ℕ) → 0 < count → count ≤ length E
     → ends_back prev (count - 1) (get_or prev j 0) ++ drop (count - 1) (set E (count - 1) j) ≡ ends_back prev count j ++ drop count E
 unfolding ends_back
-ends_back-more prev E zero j h l = absurd (omega arith)
-ends_back-more prev E (suc count) j h l =
+ends_back_more prev E zero j h l = absurd (omega arith)
+ends_back_more prev E (suc count) j h l =
     rw (sub-one, drop-cons (set E count j) count 0 (omega (arith, length-set E count j)), get_or-set_same E count j 0 (omega arith), drop-set-lt (suc count) E count j (omega arith), append_assoc)
 
 -- ---- for the reader of the first end
 
 -- at most one block: its end is the boundary itself
-pub first_end-here : (prev : List ℕ) (count j : ℕ) → count ≤ 1 → Linked prev count j → j ≡ end_of (ends_back prev count j) 1
+pub first_end_here : (prev : List ℕ) (count j : ℕ) → count ≤ 1 → Linked prev count j → j ≡ end_of (ends_back prev count j) 1
 unfolding ends_back
-first_end-here prev zero j h l = l
-first_end-here prev (suc zero) j h l = refl
-first_end-here prev (suc (suc count)) j h l = absurd (omega arith)
+first_end_here prev zero j h l = l
+first_end_here prev (suc zero) j h l = refl
+first_end_here prev (suc (suc count)) j h l = absurd (omega arith)
 
 -- more than one: that of the blocks up to the previous boundary
-pub first_end-back : (prev : List ℕ) (count j : ℕ) → 1 < count → end_of (ends_back prev (count - 1) (get_or prev j 0)) 1 ≡ end_of (ends_back prev count j) 1
+pub first_end_back : (prev : List ℕ) (count j : ℕ) → 1 < count → end_of (ends_back prev (count - 1) (get_or prev j 0)) 1 ≡ end_of (ends_back prev count j) 1
 unfolding ends_back
-first_end-back prev zero j h = absurd (omega arith)
-first_end-back prev (suc count) j h =
+first_end_back prev zero j h = absurd (omega arith)
+first_end_back prev (suc count) j h =
     rw sub-one
     (sym (get_or-append (ends_back prev count (get_or prev j 0)) (j ∷ []) 0 0 (omega (arith, length-ends_back prev count (get_or prev j 0)))))

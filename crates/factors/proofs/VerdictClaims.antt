@@ -17,7 +17,7 @@ use Rattle.answers.proofs.Claims.{refused_accepted}
 use Rattle.answers.specs.Outcome.{Outcome, accepted, refused}
 use Rattle.factors.specs.Factorization.{Chain, Factorization}
 use Rattle.factors.specs.Verdict.{verdict_from, verdict, end_of, Rises, IsBlock, FineBefore, VerdictMeaning, bad_end, no_block, unfinished, fine}
-use Rattle.factors.proofs.Chains.{length-snoc, chain_map, chain_within}
+use Rattle.factors.proofs.Chains.{length_snoc, chain_map, chain_within}
 
 -- ---- the verdict, one end at a time
 
@@ -76,7 +76,7 @@ module _ (block? : ℕ → ℕ → ℕ → Bool) (B : ℕ → ℕ → ℕ → Ty
             unfinished (subst (λ (j : ℕ). FineBefore B n ends (suc j)) all F) (λ x. z (ap (end_of ends) all ∙ x))
             (verdict_unfinished block? n k (end_of ends k) z)
     from (x ∷ rest) front k e l F =
-        go (λ v. from rest (front ++ x ∷ []) (suc k) (e ∙ sym (append_snoc front x rest)) (length-snoc front x ∙ ap suc l) v) (dec_lt (end_of ends k) x) (dec_le x n) (block? (suc k) (end_of ends k) x) refl
+        go (λ v. from rest (front ++ x ∷ []) (suc k) (e ∙ sym (append_snoc front x rest)) (length_snoc front x ∙ ap suc l) v) (dec_lt (end_of ends k) x) (dec_le x n) (block? (suc k) (end_of ends k) x) refl
       where
         end : end_of ends (suc k) ≡ x
         end = ap (λ (t : List ℕ). get_or t k 0) e ∙ get_or_at front x rest 0 k l

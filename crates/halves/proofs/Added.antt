@@ -8,7 +8,7 @@ use lib.ListN.{length, get_or, set}
 use lib.Seq.{sets, get_or-set_same}
 use Rattle.laws.proofs.Tests.{T_true}
 use Rattle.periods.specs.Period.{part, SmallestPeriod}
-use Rattle.periods.proofs.InPlace.{symbol, part-smallest_in}
+use Rattle.periods.proofs.InPlace.{symbol, part_smallest_in}
 use Rattle.runs.specs.declared.Listing.{Listing}
 use Rattle.runs.specs.Table.{root_of}
 use Rattle.runs.specs.Listing.{entry_of, stride_of}
@@ -24,7 +24,7 @@ use Rattle.halves.proofs.Recorded.{keeps_new}
 -- a root is a position of the word
 pub root_small : (w : List ℕ) (a p : ℕ) → a + 2 * p ≤ length w → SmallestPeriod (part w a (a + 2 * p)) p → root_of w a p ≤ length w
 root_small w a p h S =
-    let U = part-smallest_in w a (a + 2 * p) p h S in
+    let U = part_smallest_in w a (a + 2 * p) p h S in
     omega (arith, (root_computed w a (a + 2 * p) p U (omega arith)).to, U.period.positive)
 
 pub new_run : (w : List ℕ) (a b p : ℕ) (ends : List ℕ) → New w a b p ends → RunIn (symbol w) (length w) a b p

@@ -11,7 +11,7 @@ use lib.Dec.{T}
 use lib.ListN.{length, get_or}
 use Rattle.periods.specs.Period.{part, smallest_period}
 use Rattle.periods.proofs.InPlace.{PeriodIn, SmallestIn, symbol, period_piece, period_longer}
-use Rattle.periods.proofs.Claims.{part-smallest}
+use Rattle.periods.proofs.Claims.{part_smallest}
 use Rattle.runs.specs.Table.{run?}
 use Rattle.runs.proofs.InPlace.{RunIn, period_extend}
 use Rattle.runs.proofs.Listed.{run_sound, run_complete}
@@ -41,7 +41,7 @@ stuck_run w a b p P h left right = ((run_complete w a b P.within u R).1, least)
     Q = periodic_in w a b p P
 
     S : SmallestIn (symbol w) a b u
-    S = part-smallest w a b P.within (omega (arith, P.positive))
+    S = part_smallest w a b P.within (omega (arith, P.positive))
 
     least : u ≤ p
     least = S.least p Q

@@ -15,7 +15,7 @@ use Rattle.halves.specs.Scratch.{Scratch, row_from, ends_row, next_row}
 use Rattle.halves.specs.Found.{Solved}
 use Rattle.halves.specs.Kept.{Starts, Roomy, Advances, sum_to, Summed}
 use Rattle.halves.proofs.ScratchRows.{row_long, row_lent, row_lent_before, row_lent_behind, row_lent_long}
-use Rattle.halves.proofs.Sums.{Zeros, zeros_cleared, Counts, counts_are, sum-all, starts_are, room_zeros, room_starts, table_is}
+use Rattle.halves.proofs.Sums.{Zeros, zeros_cleared, Counts, counts_are, sum_all, starts_are, room_zeros, room_starts, table_is}
 
 -- a part of the scratch as long as a row is one
 pub row_part : (n k e : ℕ) (s : List ℕ) → e ≡ k + (n + 1) → take (e - k) (drop k s) ≡ row_from n k s
@@ -100,10 +100,10 @@ module _ (w s x : List ℕ) (F : Scratch w s) (zx : x ≡ replicate (length (tak
           ap length (row_part (length w) (3 * (length w + 1)) (4 * (length w + 1)) s' (omega arith)) ∙ row_long (length w) s' (3 * (length w + 1)) (omega (arith, kept, clean_long, F.1))
 
       pub sums_asked : (length w ≤ length counts) × (sum_to counts (length w) < 4294967296)
-      sums_asked = (omega (arith, counts_long), omega (arith, sum-all w counts counted, table_at_most w, F.0))
+      sums_asked = (omega (arith, counts_long), omega (arith, sum_all w counts counted, table_at_most w, F.0))
 
       pub count_is : sum_to counts (length w) ≡ length (runs_of w)
-      count_is = sum-all w counts counted
+      count_is = sum_all w counts counted
 
       pub starts_left : (r : List ℕ) → length r ≡ length counts → Summed counts r (length w) → Starts w (next_row w (lent s' (3 * (length w + 1)) (4 * (length w + 1)) r))
       starts_left r l R =

@@ -12,13 +12,13 @@ use lib.Dec.{T}
 use lib.ListN.{length, get_or, set, drop, length-append, get_or-append}
 use lib.Seq.{sets, length-sets, get_or-set_same, get_or-set_other, get_or-append-add, get_or-drop, ext_get_or}
 use Rattle.laws.proofs.Tests.{T_true}
-use Rattle.laws.proofs.Stores.{sets-front, sets-in, sets-out}
+use Rattle.laws.proofs.Stores.{sets-front, sets_in, sets_out}
 use Rattle.runs.specs.declared.Record.{Record}
 use Rattle.runs.specs.declared.Listing.{Listing}
 use Rattle.runs.specs.Table.{run?, root_of, run_between, rows_at, rows_before, runs_of}
 use Rattle.runs.specs.Listing.{entry_of, stride_of, flat_by}
-use Rattle.runs.proofs.Rows.{rows-skip, rows-add, count_more}
-use Rattle.runs.proofs.Listings.{length-entry, length-flat_by, flat_by-append}
+use Rattle.runs.proofs.Rows.{rows_skip, rows-add, count_more}
+use Rattle.runs.proofs.Listings.{length_entry, length-flat_by, flat_by-append}
 use Rattle.halves.specs.Found.{New, Solved}
 use Rattle.halves.specs.Kept.{new_record, Starts, Placed, Kept, Room, Keeps}
 
@@ -29,14 +29,14 @@ fails true h = absurd (h tt)
 fails false h = refl
 
 -- no run ends in a gap
-pub rows-gap : (w : List ℕ) (a e d : ℕ) → ((x : ℕ) → e < x → x ≤ e + d → T (run? w a x) → ⊥) → rows_at w a (e + d - a) ≡ rows_at w a (e - a)
-rows-gap w a e zero h = ap (rows_at w a) (omega arith)
-rows-gap w a e (suc d) h = go (rows-gap w a e d (λ x y z. h x y (omega arith))) (dec_lt a (e + suc d))
+pub rows_gap : (w : List ℕ) (a e d : ℕ) → ((x : ℕ) → e < x → x ≤ e + d → T (run? w a x) → ⊥) → rows_at w a (e + d - a) ≡ rows_at w a (e - a)
+rows_gap w a e zero h = ap (rows_at w a) (omega arith)
+rows_gap w a e (suc d) h = go (rows_gap w a e d (λ x y z. h x y (omega arith))) (dec_lt a (e + suc d))
   where
     go : rows_at w a (e + d - a) ≡ rows_at w a (e - a) → Dec (a < e + suc d) → rows_at w a (e + suc d - a) ≡ rows_at w a (e - a)
     go ih (no z) = ap (rows_at w a) (omega arith)
     go ih (yes z) =
-        ap (rows_at w a) (omega arith) ∙ rows-skip w a (e + suc d) z (fails (run? w a (e + suc d)) (h (e + suc d) (omega arith) (omega arith)))
+        ap (rows_at w a) (omega arith) ∙ rows_skip w a (e + suc d) z (fails (run? w a (e + suc d)) (h (e + suc d) (omega arith) (omega arith)))
         ∙ ap (rows_at w a) (omega arith) ∙ ih
 
 pub rows_new : (w : List ℕ) (a b p : ℕ) (ends : List ℕ) → New w a b p ends → a < b
@@ -44,14 +44,14 @@ pub rows_new : (w : List ℕ) (a b p : ℕ) (ends : List ℕ) → New w a b p en
 rows_new w a b p ends N l =
     ap (rows_at w a) (omega arith) ∙ rows-add w a b p (root_of w a p) l N.unit refl (T_true (run? w a b) N.test)
     ∙ ap (λ (x : List Record). x ++ (new_record w a b p ∷ []))
-    (ap (rows_at w a) (omega (arith, N.later)) ∙ rows-gap w a e (b - 1 - e) (λ x y z. N.none x y (omega (arith, N.later))))
+    (ap (rows_at w a) (omega (arith, N.later)) ∙ rows_gap w a e (b - 1 - e) (λ x y z. N.none x y (omega (arith, N.later))))
   where
     e : ℕ
     e = get_or ends a 0
 
-rows-one_more : (w : List ℕ) (a d : ℕ) → length (rows_at w a d) ≤ length (rows_at w a (suc d))
+rows_one_more : (w : List ℕ) (a d : ℕ) → length (rows_at w a d) ≤ length (rows_at w a (suc d))
 unfolding rows_at
-rows-one_more w a d = omega (arith, length-append (rows_at w a d) (run_between w a (a + suc d)))
+rows_one_more w a d = omega (arith, length-append (rows_at w a d) (run_between w a (a + suc d)))
 
 rows_more : (w : List ℕ) (a d e : ℕ) → length (rows_at w a d) ≤ length (rows_at w a (d + e))
 rows_more w a d zero =
@@ -59,7 +59,7 @@ rows_more w a d zero =
     omega (arith, ap (λ (x : ℕ). length (rows_at w a x)) z)
 rows_more w a d (suc e) =
     let z : d + suc e ≡ suc (d + e) = omega arith in
-    omega (arith, rows_more w a d e, ap (λ (x : ℕ). length (rows_at w a x)) z, rows-one_more w a (d + e))
+    omega (arith, rows_more w a d e, ap (λ (x : ℕ). length (rows_at w a x)) z, rows_one_more w a (d + e))
 
 -- the rows after a boundary come before those after a later one
 pub before_fits : (w : List ℕ) (a c e : ℕ) → a < c → e ≤ length w → length (rows_before w a) + length (rows_at w a (e - a)) ≤ length (rows_before w c)
@@ -119,7 +119,7 @@ module _ (f : Listing) (w base t ends next table : List ℕ) (a b p : ℕ) (insi
 
       -- another boundary
       other : (x j : ℕ) → x < length w → (x ≡ a → ⊥) → j < stride_of f * length (rows_at w x (get_or ends x 0 - x)) → get_or new (stride_of f * get_or base x 0 + j) 0 ≡ get_or (flat_by f (rows_at w x (get_or ends x 0 - x))) j 0
-      other x j h z k = sets-out table (stride_of f * get_or next a 0) (entry_of f (new_record w a b p)) (stride_of f * get_or base x 0 + j) (go (dec_lt x a)) ∙ P.at x j h k
+      other x j h z k = sets_out table (stride_of f * get_or next a 0) (entry_of f (new_record w a b p)) (stride_of f * get_or base x 0 + j) (go (dec_lt x a)) ∙ P.at x j h k
         where
           go : Dec (x < a) → (stride_of f * get_or base x 0 + j < stride_of f * get_or next a 0) ⊎ (stride_of f * get_or next a 0 + length (entry_of f (new_record w a b p)) ≤ stride_of f * get_or base x 0 + j)
           go (yes c) =
@@ -127,7 +127,7 @@ module _ (f : Listing) (w base t ends next table : List ℕ) (a b p : ℕ) (insi
               inl (omega (arith, mul-le-mul_left (stride_of f) before))
           go (no c) =
               let after : get_or next a 0 + 1 ≤ get_or base x 0 = omega (arith, ahead x (omega arith), S.at x h) in
-              inr (omega (arith, mul-le-mul_left (stride_of f) after, length-entry f (new_record w a b p)))
+              inr (omega (arith, mul-le-mul_left (stride_of f) after, length_entry f (new_record w a b p)))
 
       from_base : stride_of f * get_or next a 0 ≡ stride_of f * get_or base a 0 + stride_of f * length rows
       from_base =
@@ -137,12 +137,12 @@ module _ (f : Listing) (w base t ends next table : List ℕ) (a b p : ℕ) (insi
       -- the same
       same : (j : ℕ) → j < stride_of f * (length rows + 1) → Dec (j < stride_of f * length rows) → get_or new (stride_of f * get_or base a 0 + j) 0 ≡ get_or (flat_by f rows ++ (entry_of f (new_record w a b p))) j 0
       same j h (yes k) =
-          sets-out table (stride_of f * get_or next a 0) (entry_of f (new_record w a b p)) (stride_of f * get_or base a 0 + j) (inl (omega (arith, from_base))) ∙ P.at a j (omega arith) k
+          sets_out table (stride_of f * get_or next a 0) (entry_of f (new_record w a b p)) (stride_of f * get_or base a 0 + j) (inl (omega (arith, from_base))) ∙ P.at a j (omega arith) k
           ∙ sym (get_or-append (flat_by f rows) (entry_of f (new_record w a b p)) 0 j (omega (arith, length-flat_by f rows)))
       same j h (no k) =
           ap (λ (i : ℕ). get_or new i 0) (omega (arith, from_base))
-          ∙ sets-in table (stride_of f * get_or next a 0) (entry_of f (new_record w a b p)) (j - stride_of f * length rows) (omega (arith, length-entry f (new_record w a b p)))
-          (omega (arith, mul-le-mul_left (stride_of f) in_all, P.long, length-entry f (new_record w a b p)))
+          ∙ sets_in table (stride_of f * get_or next a 0) (entry_of f (new_record w a b p)) (j - stride_of f * length rows) (omega (arith, length_entry f (new_record w a b p)))
+          (omega (arith, mul-le-mul_left (stride_of f) in_all, P.long, length_entry f (new_record w a b p)))
           ∙ sym (get_or-append-add (flat_by f rows) (entry_of f (new_record w a b p)) (j - stride_of f * length rows) 0)
           ∙ ap (λ (i : ℕ). get_or (flat_by f rows ++ (entry_of f (new_record w a b p))) i 0) (omega (arith, length-flat_by f rows))
 
@@ -155,7 +155,7 @@ module _ (f : Listing) (w base t ends next table : List ℕ) (a b p : ℕ) (insi
       placed = record {
         long = length-sets table (stride_of f * get_or next a 0) (entry_of f (new_record w a b p)) ∙ P.long;
         at = λ x j h k. at x j h (ℕ_discrete x a) k;
-        rest = λ k h. sets-out table (stride_of f * get_or next a 0) (entry_of f (new_record w a b p)) k (inr (omega (arith, mul-le-mul_left (stride_of f) in_all, length-entry f (new_record w a b p)))) ∙ P.rest k h;
+        rest = λ k h. sets_out table (stride_of f * get_or next a 0) (entry_of f (new_record w a b p)) k (inr (omega (arith, mul-le-mul_left (stride_of f) in_all, length_entry f (new_record w a b p)))) ∙ P.rest k h;
       }
 
     pub kept_step : Kept f w base t (set ends a b) (set next a (get_or next a 0 + 1)) (sets table (stride_of f * get_or next a 0) (entry_of f (new_record w a b p)))
@@ -192,9 +192,9 @@ keeps_new f w ends next table a b p inside l le ln N = record {
 
 -- ---- the start, and the end
 
-rows-nothing : (w : List ℕ) (a d : ℕ) → d ≡ 0 → rows_at w a d ≡ []
+rows_nothing : (w : List ℕ) (a d : ℕ) → d ≡ 0 → rows_at w a d ≡ []
 unfolding rows_at
-rows-nothing w a d e = rw e refl
+rows_nothing w a d e = rw e refl
 
 -- nothing was found
 pub kept_start : (f : Listing) (w base t ends : List ℕ) → ((a : ℕ) → a < length w → get_or ends a 0 ≡ 0) → Kept f w base t ends base t
@@ -205,17 +205,17 @@ kept_start f w base t ends z = record {
 }
   where
     none : (a : ℕ) → a < length w → rows_at w a (get_or ends a 0 - a) ≡ []
-    none a h = rows-nothing w a (get_or ends a 0 - a) (omega (arith, z a h))
+    none a h = rows_nothing w a (get_or ends a 0 - a) (omega (arith, z a h))
 
 module _ (f : Listing) (w base t ends next table : List ℕ) (K : Kept f w base t ends next table) (D : Solved w 0 (length w) ends) where
-  all-rows : (a : ℕ) → a < length w → rows_at w a (get_or ends a 0 - a) ≡ rows_at w a (length w - a)
-  all-rows a h =
-      sym (rows-gap w a (get_or ends a 0) (length w - get_or ends a 0) (λ x y z r. omega (arith, D.found a x r (omega arith) (omega (arith, K.below a h)))))
+  all_rows : (a : ℕ) → a < length w → rows_at w a (get_or ends a 0 - a) ≡ rows_at w a (length w - a)
+  all_rows a h =
+      sym (rows_gap w a (get_or ends a 0) (length w - get_or ends a 0) (λ x y z r. omega (arith, D.found a x r (omega arith) (omega (arith, K.below a h)))))
       ∙ ap (rows_at w a) (omega (arith, K.below a h))
 
   -- CLAIM: the count after each boundary is that of the definition
-  pub all-counted : (a : ℕ) → a < length w → get_or next a 0 ≡ get_or base a 0 + length (rows_at w a (length w - a))
-  all-counted a h = omega (arith, K.counted a h, ap length (all-rows a h))
+  pub all_counted : (a : ℕ) → a < length w → get_or next a 0 ≡ get_or base a 0 + length (rows_at w a (length w - a))
+  all_counted a h = omega (arith, K.counted a h, ap length (all_rows a h))
 
   module _ (S : Starts w base) (room : stride_of f * length (runs_of w) ≤ length t) where
     All : Placed f w base t ends table
@@ -237,8 +237,8 @@ module _ (f : Listing) (w base t ends next table : List ℕ) (K : Kept f w base 
         go ih (no z) =
             rw (flat_by-append f old new) (
             ap (λ (i : ℕ). get_or table i 0) (omega (arith, ap (λ (x : ℕ). stride_of f * x) (S.at c (omega arith))))
-            ∙ All.at c (k - stride_of f * length old) (omega arith) (omega (arith, ap (λ (x : List Record). stride_of f * length x) (all-rows c (omega arith)), ap (λ (x : ℕ). stride_of f * x) (length-append old new)))
-            ∙ ap (λ (x : List Record). get_or (flat_by f x) (k - stride_of f * length old) 0) (all-rows c (omega arith))
+            ∙ All.at c (k - stride_of f * length old) (omega arith) (omega (arith, ap (λ (x : List Record). stride_of f * length x) (all_rows c (omega arith)), ap (λ (x : ℕ). stride_of f * x) (length-append old new)))
+            ∙ ap (λ (x : List Record). get_or (flat_by f x) (k - stride_of f * length old) 0) (all_rows c (omega arith))
             ∙ sym (get_or-append-add (flat_by f old) (flat_by f new) (k - stride_of f * length old) 0)
             ∙ ap (λ (i : ℕ). get_or (flat_by f old ++ flat_by f new) i 0) (omega (arith, length-flat_by f old))
             )

@@ -15,7 +15,7 @@ use Rattle.runs.proofs.Rows.{before_none, count_more}
 use Rattle.runs.proofs.Few.{table_at_most}
 use Rattle.halves.specs.Found.{Solved}
 use Rattle.halves.specs.Kept.{Starts, Kept, Room, Keeps, sum_to, Summed}
-use Rattle.halves.proofs.Recorded.{before_fits, all-counted, all_placed, kept_start}
+use Rattle.halves.proofs.Recorded.{before_fits, all_counted, all_placed, kept_start}
 
 -- ---- zeros
 
@@ -41,15 +41,15 @@ pub sum_more : (s : List ℕ) (a : ℕ) → sum_to s (a + 1) ≡ sum_to s a + ge
 unfolding sum_to
 sum_more s a = rw (add-one a) refl
 
-pub sum-grows : (s : List ℕ) (a d : ℕ) → sum_to s a ≤ sum_to s (a + d)
-sum-grows s a zero = let e : a + 0 ≡ a = omega arith in rw e (omega arith)
-sum-grows s a (suc d) =
+pub sum_grows : (s : List ℕ) (a d : ℕ) → sum_to s a ≤ sum_to s (a + d)
+sum_grows s a zero = let e : a + 0 ≡ a = omega arith in rw e (omega arith)
+sum_grows s a (suc d) =
     let e : a + suc d ≡ a + d + 1 = omega arith in
-    rw e (omega (arith, sum-grows s a d, sum_more s (a + d)))
+    rw e (omega (arith, sum_grows s a d, sum_more s (a + d)))
 
 -- up to one number, which is read, and past it
 pub sum_below : (s : List ℕ) (a n : ℕ) → a < n → sum_to s a + get_or s a 0 ≤ sum_to s n
-sum_below s a n h = omega (arith, sum_more s a, sum-grows s (a + 1) (n - a - 1), ap (sum_to s) e)
+sum_below s a n h = omega (arith, sum_more s a, sum_grows s (a + 1) (n - a - 1), ap (sum_to s) e)
   where
     e : a + 1 + (n - a - 1) ≡ n
     e = omega arith
@@ -75,9 +75,9 @@ counts_sum w next C (suc a) l =
     let e : suc a ≡ a + 1 = omega arith in
     rw e (omega (arith, sum_more next a, counts_sum w next C a (omega arith), C.at a (omega arith), count_more w a))
 
-pub sum-all : (w next : List ℕ) → Counts w next → sum_to next (length w) ≡ length (runs_of w)
+pub sum_all : (w next : List ℕ) → Counts w next → sum_to next (length w) ≡ length (runs_of w)
 unfolding runs_of
-sum-all w next C = counts_sum w next C (length w) (omega arith)
+sum_all w next C = counts_sum w next C (length w) (omega arith)
 
 pub starts_are : (w next r : List ℕ) → Counts w next → Summed next r (length w) → Starts w r
 starts_are w next r C S = record { at = λ a l. S.done a l ∙ counts_sum w next C a (omega arith) }
@@ -89,7 +89,7 @@ kept_zeros f w base t ends Z = kept_start f w base t ends (λ a h. Z.at a)
 -- the first turn of the finder counts
 pub counts_are : (f : Listing) (w e n t e' n' t' : List ℕ) → Zeros e → Zeros n → Keeps f w e n t e' n' t' → Solved w 0 (length w) e' → Counts w n'
 counts_are f w e n t e' n' t' E N K D =
-    record { at = λ a h. omega (arith, all-counted f w n t e' n' t' (K.kept n t (kept_zeros f w n t e E)) D a h, N.at a) }
+    record { at = λ a h. omega (arith, all_counted f w n t e' n' t' (K.kept n t (kept_zeros f w n t e E)) D a h, N.at a) }
 
 -- and the second one writes
 pub table_is : (f : Listing) (w e n t e' n' t' : List ℕ) → Zeros e → Starts w n → stride_of f * length (runs_of w) ≤ length t → Keeps f w e n t e' n' t' → Solved w 0 (length w) e' → t' ≡ sets t 0 (flat_by f (runs_of w))

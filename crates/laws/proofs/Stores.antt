@@ -16,25 +16,25 @@ sets-append t i (x ∷ xs) ys =
     sets-append (set t i x) (suc i) xs ys ∙ ap (λ (k : ℕ). sets (sets (set t i x) (suc i) xs) k ys) e
 
 -- a place that nothing is stored in
-pub sets-out : (t : List ℕ) (i : ℕ) (vs : List ℕ) (k : ℕ) → (k < i) ⊎ (i + length vs ≤ k) → get_or (sets t i vs) k 0 ≡ get_or t k 0
-sets-out t i [] k h = refl
-sets-out t i (v ∷ vs) k (inl h) = sets-out (set t i v) (suc i) vs k (inl (omega arith)) ∙ get_or-set_other t i k v 0 (λ e. omega arith)
-sets-out t i (v ∷ vs) k (inr h) = sets-out (set t i v) (suc i) vs k (inr (omega arith)) ∙ get_or-set_other t i k v 0 (λ e. omega arith)
+pub sets_out : (t : List ℕ) (i : ℕ) (vs : List ℕ) (k : ℕ) → (k < i) ⊎ (i + length vs ≤ k) → get_or (sets t i vs) k 0 ≡ get_or t k 0
+sets_out t i [] k h = refl
+sets_out t i (v ∷ vs) k (inl h) = sets_out (set t i v) (suc i) vs k (inl (omega arith)) ∙ get_or-set_other t i k v 0 (λ e. omega arith)
+sets_out t i (v ∷ vs) k (inr h) = sets_out (set t i v) (suc i) vs k (inr (omega arith)) ∙ get_or-set_other t i k v 0 (λ e. omega arith)
 
 -- and a place that has one of the numbers
-pub sets-in : (t : List ℕ) (i : ℕ) (vs : List ℕ) (j : ℕ) → j < length vs → i + length vs ≤ length t → get_or (sets t i vs) (i + j) 0 ≡ get_or vs j 0
-sets-in t i [] j l h = absurd (omega arith)
-sets-in t i (v ∷ vs) zero l h =
+pub sets_in : (t : List ℕ) (i : ℕ) (vs : List ℕ) (j : ℕ) → j < length vs → i + length vs ≤ length t → get_or (sets t i vs) (i + j) 0 ≡ get_or vs j 0
+sets_in t i [] j l h = absurd (omega arith)
+sets_in t i (v ∷ vs) zero l h =
     let e : i + 0 ≡ i = omega arith in
-    rw e (sets-out (set t i v) (suc i) vs i (inl (omega arith)) ∙ get_or-set_same t i v 0 (omega arith))
-sets-in t i (v ∷ vs) (suc j) l h =
+    rw e (sets_out (set t i v) (suc i) vs i (inl (omega arith)) ∙ get_or-set_same t i v 0 (omega arith))
+sets_in t i (v ∷ vs) (suc j) l h =
     let e : i + suc j ≡ suc i + j = omega arith in
-    rw e (sets-in (set t i v) (suc i) vs j (omega arith) (omega (arith, length-set t i v)))
+    rw e (sets_in (set t i v) (suc i) vs j (omega arith) (omega (arith, length-set t i v)))
 
 -- past the end nothing is stored
-pub sets-past : (t : List ℕ) (i : ℕ) (vs : List ℕ) → length t ≤ i → sets t i vs ≡ t
-sets-past t i [] h = refl
-sets-past t i (v ∷ vs) h = ap (λ (x : List ℕ). sets x (suc i) vs) (set_out t i v h) ∙ sets-past t (suc i) vs (omega arith)
+pub sets_past : (t : List ℕ) (i : ℕ) (vs : List ℕ) → length t ≤ i → sets t i vs ≡ t
+sets_past t i [] h = refl
+sets_past t i (v ∷ vs) h = ap (λ (x : List ℕ). sets x (suc i) vs) (set_out t i v h) ∙ sets_past t (suc i) vs (omega arith)
 
 -- nothing is stored in a table with no places
 pub sets-none : (i : ℕ) (vs : List ℕ) → sets [] i vs ≡ []

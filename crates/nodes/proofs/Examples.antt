@@ -18,17 +18,17 @@ unfolding nodes_at runs_of rows_before rows_at run_between run? repetition? smal
 nodes_of_aa = refl
 
 -- "from first+2×unit−1 to last": of the runs 1 to 4 above, from 2 to 2, from 6 to 8, from 5 to 5, from 8 to 8
-pub nodes_at-8 : nodes_at held_period 2 word_aabaabaa 8 ≡ 2 ∷ 4 ∷ []
+pub nodes_at_8 : nodes_at held_period 2 word_aabaabaa 8 ≡ 2 ∷ 4 ∷ []
 unfolding nodes_at runs_of rows_before rows_at run_between run? repetition? smallest_period
-nodes_at-8 = refl
+nodes_at_8 = refl
 
-pub nodes_at-6 : nodes_at held_period 2 word_aabaabaa 6 ≡ 2 ∷ []
+pub nodes_at_6 : nodes_at held_period 2 word_aabaabaa 6 ≡ 2 ∷ []
 unfolding nodes_at runs_of rows_before rows_at run_between run? repetition? smallest_period
-nodes_at-6 = refl
+nodes_at_6 = refl
 
-pub nodes_at-3 : nodes_at held_period 2 word_aabaabaa 3 ≡ []
+pub nodes_at_3 : nodes_at held_period 2 word_aabaabaa 3 ≡ []
 unfolding nodes_at runs_of rows_before rows_at run_between run? repetition? smallest_period
-nodes_at-3 = refl
+nodes_at_3 = refl
 
 -- abababab has one run of two letters, all of it: in edition 1 its nodes are from 4 to 8, in edition 2 "from first+3×unit−1", 6 to 8
 pub nodes_of_abababab_at_5 : nodes_at held_period 2 word_abababab 5 ≡ 1 ∷ []
@@ -80,13 +80,13 @@ unfolding nodes_outcome nodes_at runs_of rows_before rows_at run_between run? re
 nodes_a_place_short = refl
 
 -- "6: positions outside": below 1 and above n
-pub nodes_at-0 : nodes_outcome word_aabaabaa 1 0 8 ≡ refused 6 0
+pub nodes_at_0 : nodes_outcome word_aabaabaa 1 0 8 ≡ refused 6 0
 unfolding nodes_outcome bad_edition?
-nodes_at-0 = refl
+nodes_at_0 = refl
 
-pub nodes_at-9 : nodes_outcome word_aabaabaa 1 9 8 ≡ refused 6 0
+pub nodes_at_9 : nodes_outcome word_aabaabaa 1 9 8 ≡ refused 6 0
 unfolding nodes_outcome bad_edition?
-nodes_at-9 = refl
+nodes_at_9 = refl
 
 -- "12 ... directly after 1": before 6
 pub nodes_edition_0 : nodes_outcome word_aabaabaa 0 0 8 ≡ refused 12 0

@@ -12,7 +12,7 @@ use lib.ListN.{length, get_or, set, take, drop, length-append, length-replicate,
 use lib.Seq.{sets, set_comm, drop-cons, take-nil}
 use Rattle.laws.proofs.Stores.{sets-append}
 use Rattle.decimals.specs.Decimal.{digits_in, digits, digit_count, plain}
-use Rattle.decimals.proofs.Claims.{digits-length, digits-in_length, count_one, plain-shortest}
+use Rattle.decimals.proofs.Claims.{digits-length, digits_in_length, count_one, plain-shortest}
 use Rattle.decimals.proofs.Fields.{at_most_at}
 use Rattle.page_lines.specs.Line.{widths, width_of, sum, start_of, number_columns, line_width, space, spaces, right_aligned, columns, hex_byte, hex_digits, symbols, greatest, LineNumbers}
 
@@ -110,52 +110,52 @@ unfolding columns
 columns-none [] = refl
 columns-none (width ∷ ws) = refl
 
-pub columns-more : (ws xs : List ℕ) (c : ℕ) → c < length ws → c < length xs
+pub columns_more : (ws xs : List ℕ) (c : ℕ) → c < length ws → c < length xs
     → columns (drop c ws) (drop c xs) ≡ right_aligned (get_or ws c 0) (get_or xs c 0) ++ columns (drop (c + 1) ws) (drop (c + 1) xs)
 unfolding columns
-columns-more ws xs c h k = ap₂ columns (drop-cons ws c 0 h) (drop-cons xs c 0 k) ∙ rw (add-one c) refl
+columns_more ws xs c h k = ap₂ columns (drop-cons ws c 0 h) (drop-cons xs c 0 k) ∙ rw (add-one c) refl
 
-pub columns-done : (ws xs : List ℕ) (c : ℕ) → length xs ≤ c → columns (drop c ws) (drop c xs) ≡ []
-columns-done ws xs c h = ap (columns (drop c ws)) (drop_of_length-le xs {i = c} h) ∙ columns-none (drop c ws)
+pub columns_done : (ws xs : List ℕ) (c : ℕ) → length xs ≤ c → columns (drop c ws) (drop c xs) ≡ []
+columns_done ws xs c h = ap (columns (drop c ws)) (drop_of_length-le xs {i = c} h) ∙ columns-none (drop c ws)
 
 -- each number of a line is shorter than its column
-pub line-number_short : (xs : List ℕ) → LineNumbers xs → (c : ℕ) → c < number_columns → length (plain (get_or xs c 0)) < width_of c
-line-number_short xs N c h = number_short c (get_or xs c 0) h (at_most_at greatest xs c N.1 (omega arith))
+pub line_number_short : (xs : List ℕ) → LineNumbers xs → (c : ℕ) → c < number_columns → length (plain (get_or xs c 0)) < width_of c
+line_number_short xs N c h = number_short c (get_or xs c 0) h (at_most_at greatest xs c N.1 (omega arith))
 
 -- ---- symbols
 
 -- a store behind a stretch may come before it
-set-behind : (t : List ℕ) (at : ℕ) (ys : List ℕ) (k y : ℕ) → at + length ys ≤ k → set (sets t at ys) k y ≡ sets (set t k y) at ys
-set-behind t at [] k y h = refl
-set-behind t at (x ∷ xs) k y h = set-behind (set t at x) (suc at) xs k y (omega arith) ∙ ap (λ (l : List ℕ). sets l (suc at) xs) (set_comm t at k x y (λ e. omega arith))
+set_behind : (t : List ℕ) (at : ℕ) (ys : List ℕ) (k y : ℕ) → at + length ys ≤ k → set (sets t at ys) k y ≡ sets (set t k y) at ys
+set_behind t at [] k y h = refl
+set_behind t at (x ∷ xs) k y h = set_behind (set t at x) (suc at) xs k y (omega arith) ∙ ap (λ (l : List ℕ). sets l (suc at) xs) (set_comm t at k x y (λ e. omega arith))
 
 -- of the digits that are left the last is stored first
 pub digit_stored : (t : List ℕ) (at k j x : ℕ) → k ≡ suc j → sets t at (hex_digits k x) ≡ sets (set t (at + j) (hex_byte (x % 16))) at (hex_digits j (x / 16))
 unfolding digits_in
 digit_stored t at k j x e =
     let high = hex_digits j (x / 16) in
-    let long = digits-in_length 16 hex_byte j (x / 16) in
+    let long = digits_in_length 16 hex_byte j (x / 16) in
     ap (λ (n : ℕ). sets t at (hex_digits n x)) e
     ∙ sets-append t at high (hex_byte (x % 16) ∷ [])
     ∙ ap (λ (n : ℕ). set (sets t at high) (at + n) (hex_byte (x % 16))) long
-    ∙ set-behind t at high (at + j) (hex_byte (x % 16)) (omega (arith, long))
+    ∙ set_behind t at high (at + j) (hex_byte (x % 16)) (omega (arith, long))
 
 -- no digit is left
-pub digits-stored : (t : List ℕ) (at k x : ℕ) → k ≤ 0 → sets t at (hex_digits k x) ≡ t
+pub digits_stored : (t : List ℕ) (at k x : ℕ) → k ≤ 0 → sets t at (hex_digits k x) ≡ t
 unfolding digits_in
-digits-stored t at zero x h = refl
-digits-stored t at (suc k) x h = absurd (omega arith)
+digits_stored t at zero x h = refl
+digits_stored t at (suc k) x h = absurd (omega arith)
 
 pub symbols-length : (k : ℕ) (xs : List ℕ) → length (symbols k xs) ≡ k * length xs
 unfolding symbols
 symbols-length k [] = omega arith
 symbols-length k (x ∷ xs) =
-    omega (arith, length-append (hex_digits k x) (symbols k xs), digits-in_length 16 hex_byte k x, symbols-length k xs, mul-suc k (length xs))
+    omega (arith, length-append (hex_digits k x) (symbols k xs), digits_in_length 16 hex_byte k x, symbols-length k xs, mul-suc k (length xs))
 
-pub symbols-more : (k : ℕ) (xs : List ℕ) (i : ℕ) → i < length xs → symbols k (drop i xs) ≡ hex_digits k (get_or xs i 0) ++ symbols k (drop (i + 1) xs)
+pub symbols_more : (k : ℕ) (xs : List ℕ) (i : ℕ) → i < length xs → symbols k (drop i xs) ≡ hex_digits k (get_or xs i 0) ++ symbols k (drop (i + 1) xs)
 unfolding symbols
-symbols-more k xs i h = ap (symbols k) (drop-cons xs i 0 h) ∙ rw (add-one i) refl
+symbols_more k xs i h = ap (symbols k) (drop-cons xs i 0 h) ∙ rw (add-one i) refl
 
-pub symbols-done : (k : ℕ) (xs : List ℕ) (i : ℕ) → length xs ≤ i → symbols k (drop i xs) ≡ []
+pub symbols_done : (k : ℕ) (xs : List ℕ) (i : ℕ) → length xs ≤ i → symbols k (drop i xs) ≡ []
 unfolding symbols
-symbols-done k xs i h = ap (symbols k) (drop_of_length-le xs {i = i} h)
+symbols_done k xs i h = ap (symbols k) (drop_of_length-le xs {i = i} h)

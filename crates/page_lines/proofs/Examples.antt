@@ -35,9 +35,9 @@ unfolding digits_in digit_count
 greatest_aligned = refl
 
 -- symbols 0, 9, 10 and 255: 00, 09, 0a, ff
-pub symbols-shown : symbols 2 (0 ∷ 9 ∷ 10 ∷ 255 ∷ []) ≡ 48 ∷ 48 ∷ 48 ∷ 57 ∷ 48 ∷ 97 ∷ 102 ∷ 102 ∷ []
+pub symbols_shown : symbols 2 (0 ∷ 9 ∷ 10 ∷ 255 ∷ []) ≡ 48 ∷ 48 ∷ 48 ∷ 57 ∷ 48 ∷ 97 ∷ 102 ∷ 102 ∷ []
 unfolding symbols digits_in
-symbols-shown = refl
+symbols_shown = refl
 
 -- codes 255, 256, 257 and 65,535: 00ff, 0100, 0101, ffff
 pub codes_shown : symbols 4 (255 ∷ 256 ∷ 257 ∷ 65535 ∷ []) ≡ 48 ∷ 48 ∷ 102 ∷ 102 ∷ 48 ∷ 49 ∷ 48 ∷ 48 ∷ 48 ∷ 49 ∷ 48 ∷ 49 ∷ 102 ∷ 102 ∷ 102 ∷ 102 ∷ []
@@ -73,7 +73,7 @@ unfolding line columns symbols digits_in digit_count
 longest_line = refl
 
 -- the same of 16-bit codes
-pub line-of_codes : line code_form (99999 ∷ 99999 ∷ 99999 ∷ 99999 ∷ 99999 ∷ 99999 ∷ 99999 ∷ []) (255 ∷ 256 ∷ 257 ∷ 65535 ∷ 43981 ∷ [])
+pub line_of_codes : line code_form (99999 ∷ 99999 ∷ 99999 ∷ 99999 ∷ 99999 ∷ 99999 ∷ 99999 ∷ []) (255 ∷ 256 ∷ 257 ∷ 65535 ∷ 43981 ∷ [])
     ≡ 32 ∷ 57 ∷ 57 ∷ 57 ∷ 57 ∷ 57 ∷ 32 ∷ 57 ∷ 57 ∷ 57 ∷ 57 ∷ 57 ∷ 32 ∷ 57 ∷ 57 ∷ 57 ∷ 57 ∷ 57 ∷ 32 ∷ 57 ∷ 57 ∷ 57 ∷ 57 ∷ 57 ∷ 32 ∷ 57 ∷ 57 ∷ 57 ∷ 57 ∷ 57 ∷ 32 ∷ 57 ∷ 57 ∷ 57 ∷ 57 ∷ 57 ∷ 32 ∷ 57 ∷ 57 ∷ 57 ∷ 57 ∷ 57 ∷ 48 ∷ 48 ∷ 102 ∷ 102 ∷ 48 ∷ 49 ∷ 48 ∷ 48 ∷ 48 ∷ 49 ∷ 48 ∷ 49 ∷ 102 ∷ 102 ∷ 102 ∷ 102 ∷ 32 ∷ 32 ∷ 10 ∷ []
 unfolding line columns symbols digits_in digit_count
-line-of_codes = refl
+line_of_codes = refl

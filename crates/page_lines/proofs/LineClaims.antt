@@ -1,4 +1,4 @@
--- A line, of any form that fits, is one line of 60 characters and byte 10, which stands nowhere else (line-is_one); each of its columns reads as its number
+-- A line, of any form that fits, is one line of 60 characters and byte 10, which stands nowhere else (line_is_one); each of its columns reads as its number
 -- (column_reads). By induction on the lists: columns and symbols fill the places that they have, and digits and spaces are other bytes. Assumes nothing.
 use mathlib.Core.Path.{◌≡◌, refl, sym, ap, ◌∙◌, subst}
 use mathlib.Core.Logic.{◌≢◌}
@@ -13,12 +13,12 @@ use lib.ListN.{length, get_or, set, take, drop, length-append, length-take, leng
 use lib.Seq.{sets, take_at, drop-append-add}
 use Rattle.laws.proofs.Tests.{and_left, and_right}
 use Rattle.decimals.specs.Decimal.{digits_in, digit_count, plain, digit?, digits?, value, spelled, line_end, field}
-use Rattle.decimals.proofs.Claims.{digit_low, digits-are_digits, plain_value}
+use Rattle.decimals.proofs.Claims.{digit_low, digits_are_digits, plain_value}
 use Rattle.decimals.proofs.Fields.{at_most_at}
 use Rattle.writers.proofs.Stores.{stored, left_all, left_less, left_last}
 use Rattle.page_lines.specs.Line.{widths, width_of, sum, start_of, number_columns, line_width, line_bytes, space, spaces, right_aligned, columns, hex_bytes, hex_byte, hex_digits, symbols, left_aligned, unit_column, byte_form, code_form, Fits, line, NoEnd, OneLine, greatest, LineNumbers}
 use Rattle.page_lines.specs.declared.Form.{Form}
-use Rattle.page_lines.proofs.Columns.{start_unit, right_length, line-number_short, symbols-length}
+use Rattle.page_lines.proofs.Columns.{start_unit, right_length, line_number_short, symbols-length}
 
 -- ---- how long the columns are
 
@@ -34,16 +34,16 @@ columns-length (width ∷ ws) (x ∷ xs) h l =
 module _ (numbers : List ℕ) (N : LineNumbers numbers) where
   -- each number fits
   fits : (c : ℕ) → c < length numbers → length (plain (get_or numbers c 0)) ≤ width_of c
-  fits c h = omega (arith, line-number_short numbers N c (omega arith))
+  fits c h = omega (arith, line_number_short numbers N c (omega arith))
 
   numbers_length : length (columns widths numbers) ≡ start_of number_columns
   numbers_length = columns-length widths numbers fits (omega arith) ∙ ap start_of N.0
 
-pub byte_form-fits : Fits byte_form
-byte_form-fits = omega arith
+pub byte_form_fits : Fits byte_form
+byte_form_fits = omega arith
 
-pub code_form-fits : Fits code_form
-code_form-fits = omega arith
+pub code_form_fits : Fits code_form
+code_form_fits = omega arith
 
 -- the symbols that are shown fit into the last column
 pub shown_fit : (form : Form) → Fits form → (unit : List ℕ) (k : ℕ) → k ≤ form.shown → form.digits * length (take k unit) ≤ width_of number_columns
@@ -55,30 +55,30 @@ unit_length form F unit =
     let s = symbols form.digits (take form.shown unit) in
     omega (arith, length-append s (spaces (width_of number_columns - length s)), length-replicate (width_of number_columns - length s) space, symbols-length form.digits (take form.shown unit), shown_fit form F unit form.shown (omega arith))
 
-pub line-is : (form : Form) (numbers unit : List ℕ) → line form numbers unit ≡ columns widths numbers ++ (unit_column form.digits form.shown unit ++ (line_end ∷ []))
+pub line_is : (form : Form) (numbers unit : List ℕ) → line form numbers unit ≡ columns widths numbers ++ (unit_column form.digits form.shown unit ++ (line_end ∷ []))
 unfolding line
-line-is form numbers unit = refl
+line_is form numbers unit = refl
 
 -- ---- stored
 
-take-least : (k : ℕ) (l : List ℕ) → take (min k (length l)) l ≡ take k l
-take-least zero l = ap (λ (j : ℕ). take j l) (zero-min (length l))
-take-least (suc k) [] = ap (λ (j : ℕ). take {A = ℕ} j []) (min-zero (suc k))
-take-least (suc k) (x ∷ l) = ap (λ (j : ℕ). take j (x ∷ l)) (suc-min-suc k (length l)) ∙ ap (λ (r : List ℕ). x ∷ r) (take-least k l)
+take_least : (k : ℕ) (l : List ℕ) → take (min k (length l)) l ≡ take k l
+take_least zero l = ap (λ (j : ℕ). take j l) (zero-min (length l))
+take_least (suc k) [] = ap (λ (j : ℕ). take {A = ℕ} j []) (min-zero (suc k))
+take_least (suc k) (x ∷ l) = ap (λ (j : ℕ). take j (x ∷ l)) (suc-min-suc k (length l)) ∙ ap (λ (r : List ℕ). x ∷ r) (take_least k l)
 
 -- the numbers, the symbols and the line's end, one after the other
-pub line-stored : (form : Form) → Fits form → (t u v numbers unit : List ℕ) (at s width k : ℕ) → LineNumbers numbers → u ≡ sets t at (columns widths numbers)
+pub line_stored : (form : Form) → Fits form → (t u v numbers unit : List ℕ) (at s width k : ℕ) → LineNumbers numbers → u ≡ sets t at (columns widths numbers)
     → s ≡ start_of number_columns → width ≡ width_of number_columns → k ≡ min form.shown (length unit)
     → v ≡ sets u (at + s) (left_aligned width (symbols form.digits (take (k - 0) unit))) → set v (at + line_width) line_end ≡ sets t at (line form numbers unit)
-line-stored form F t u v numbers unit at s width k N e f g h w =
+line_stored form F t u v numbers unit at s width k N e f g h w =
     let front = columns widths numbers in
     let last = unit_column form.digits form.shown unit in
-    let shown : take (k - 0) unit ≡ take form.shown unit = ap (λ (j : ℕ). take j unit) {x = k - 0} {y = k} (omega arith) ∙ ap (λ (j : ℕ). take j unit) h ∙ take-least form.shown unit in
+    let shown : take (k - 0) unit ≡ take form.shown unit = ap (λ (j : ℕ). take j unit) {x = k - 0} {y = k} (omega arith) ∙ ap (λ (j : ℕ). take j unit) h ∙ take_least form.shown unit in
     let w' : v ≡ sets u (at + start_of number_columns) last = w ∙ rw (f, g, shown) refl in
     let A = stored t at front u (at + start_of number_columns) (ap (λ (n : ℕ). at + n) (sym (numbers_length numbers N)), e) in
     let B = stored u (at + start_of number_columns) last v (at + line_width) (omega (arith, unit_length form F unit, start_unit), w') in
     let C = stored v (at + line_width) (line_end ∷ []) (set v (at + line_width) line_end) (at + line_bytes) (omega arith, refl) in
-    (left_last (left_less (line_end ∷ []) (left_less (last ++ (line_end ∷ [])) (left_all t at (line form numbers unit) (front ++ (last ++ (line_end ∷ []))) (line-is form numbers unit)) A) B) C).bytes
+    (left_last (left_less (line_end ∷ []) (left_less (last ++ (line_end ∷ [])) (left_all t at (line form numbers unit) (front ++ (last ++ (line_end ∷ []))) (line_is form numbers unit)) A) B) C).bytes
 
 -- ---- byte 10
 
@@ -96,7 +96,7 @@ unended_digits (b ∷ bs) h = (λ e. omega (arith, digit_low b (and_left (digit?
 
 unended_right : (width x : ℕ) → NoEnd (right_aligned width x)
 unended_right width x =
-    unended_append (spaces (width - length (plain x))) (plain x) (unended_spaces (width - length (plain x))) (unended_digits (plain x) (digits-are_digits (digit_count 9 x) x))
+    unended_append (spaces (width - length (plain x))) (plain x) (unended_spaces (width - length (plain x))) (unended_digits (plain x) (digits_are_digits (digit_count 9 x) x))
 
 unended_columns : (ws xs : List ℕ) → NoEnd (columns ws xs)
 unfolding columns
@@ -138,33 +138,33 @@ unended_unit k shown unit =
     unended_append s (spaces (width_of number_columns - length s)) (unended_symbols k (take shown unit)) (unended_spaces (width_of number_columns - length s))
 
 -- CLAIM: a line is one line of exactly 60 characters and byte 10, which stands nowhere else
-pub line-is_one : (form : Form) → Fits form → (numbers unit : List ℕ) → LineNumbers numbers → OneLine (line form numbers unit)
-line-is_one form F numbers unit N =
+pub line_is_one : (form : Form) → Fits form → (numbers unit : List ℕ) → LineNumbers numbers → OneLine (line form numbers unit)
+line_is_one form F numbers unit N =
     let front = columns widths numbers in
     let last = unit_column form.digits form.shown unit in
     record {
       characters = front ++ last;
       wide = omega (arith, length-append front last, numbers_length numbers N, unit_length form F unit, start_unit);
       unended = unended_append front last (unended_columns widths numbers) (unended_unit form.digits form.shown unit);
-      is = line-is form numbers unit ∙ sym (append_assoc front last (line_end ∷ []));
+      is = line_is form numbers unit ∙ sym (append_assoc front last (line_end ∷ []));
     }
 
 -- so it has 61 bytes
 pub line-length : (form : Form) → Fits form → (numbers unit : List ℕ) → LineNumbers numbers → length (line form numbers unit) ≡ line_bytes
 line-length form F numbers unit N =
-    let L = line-is_one form F numbers unit N in
+    let L = line_is_one form F numbers unit N in
     omega (arith, ap length L.is, length-append L.characters (line_end ∷ []), L.wide)
 
 -- ---- reading a column
 
 -- a space spells nothing: it stands below the byte of 0, and before the digits
-spaces-spell : (n : ℕ) (bs : List ℕ) → spelled 0 (spaces n ++ bs) ≡ spelled 0 bs
-spaces-spell zero bs = refl
-spaces-spell (suc n) bs = spaces-spell n bs
+spaces_spell : (n : ℕ) (bs : List ℕ) → spelled 0 (spaces n ++ bs) ≡ spelled 0 bs
+spaces_spell zero bs = refl
+spaces_spell (suc n) bs = spaces_spell n bs
 
 -- CLAIM: a number in its column reads as the number
 pub right_reads : (width x : ℕ) → x < 10 ^ 10 → value (right_aligned width x) ≡ x
-right_reads width x h = spaces-spell (width - length (plain x)) (plain x) ∙ plain_value x h
+right_reads width x h = spaces_spell (width - length (plain x)) (plain x) ∙ plain_value x h
 
 column_at : (ws xs rest : List ℕ) (c : ℕ) → ((c : ℕ) → c < length xs → length (plain (get_or xs c 0)) ≤ get_or ws c 0) → c < length xs → length xs ≤ length ws
     → field (columns ws xs ++ rest) (sum (take c ws)) (get_or ws c 0) ≡ right_aligned (get_or ws c 0) (get_or xs c 0)
@@ -184,6 +184,6 @@ column_at (width ∷ ws) (x ∷ xs) rest (suc c) h l m =
 pub column_reads : (form : Form) (numbers unit : List ℕ) → LineNumbers numbers → (c : ℕ) → c < number_columns
     → value (field (line form numbers unit) (start_of c) (width_of c)) ≡ get_or numbers c 0
 column_reads form numbers unit N c h =
-    ap (λ (s : List ℕ). value (field s (start_of c) (width_of c))) (line-is form numbers unit)
+    ap (λ (s : List ℕ). value (field s (start_of c) (width_of c))) (line_is form numbers unit)
     ∙ ap value (column_at widths numbers (unit_column form.digits form.shown unit ++ (line_end ∷ [])) c (fits numbers N) (omega arith) (omega arith))
     ∙ right_reads (width_of c) (get_or numbers c 0) (omega (arith, at_most_at greatest numbers c N.1 (omega arith)))

@@ -19,15 +19,15 @@ use Rattle.page_lines.specs.Line.{columns, symbols, byte_form, code_form, line}
 use Rattle.pages.specs.Page.{page_line, page, page_outcome, page_table}
 
 -- "     1     1     2     1     2     0     161                "
-abbrev line-1 : List ℕ
-line-1 = 32 ∷ 32 ∷ 32 ∷ 32 ∷ 32 ∷ 49 ∷ 32 ∷ 32 ∷ 32 ∷ 32 ∷ 32 ∷ 49 ∷ 32 ∷ 32 ∷ 32 ∷ 32 ∷ 32 ∷ 50 ∷ 32 ∷ 32 ∷ 32 ∷ 32 ∷ 32 ∷ 49 ∷ 32 ∷ 32 ∷ 32 ∷ 32 ∷ 32 ∷ 50 ∷ 32 ∷ 32 ∷ 32 ∷ 32 ∷ 32 ∷ 48 ∷ 32 ∷ 32 ∷ 32 ∷ 32 ∷ 32 ∷ 49 ∷ 54 ∷ 49 ∷ 32 ∷ 32 ∷ 32 ∷ 32 ∷ 32 ∷ 32 ∷ 32 ∷ 32 ∷ 32 ∷ 32 ∷ 32 ∷ 32 ∷ 32 ∷ 32 ∷ 32 ∷ 32 ∷ 10 ∷ []
+abbrev line_1 : List ℕ
+line_1 = 32 ∷ 32 ∷ 32 ∷ 32 ∷ 32 ∷ 49 ∷ 32 ∷ 32 ∷ 32 ∷ 32 ∷ 32 ∷ 49 ∷ 32 ∷ 32 ∷ 32 ∷ 32 ∷ 32 ∷ 50 ∷ 32 ∷ 32 ∷ 32 ∷ 32 ∷ 32 ∷ 49 ∷ 32 ∷ 32 ∷ 32 ∷ 32 ∷ 32 ∷ 50 ∷ 32 ∷ 32 ∷ 32 ∷ 32 ∷ 32 ∷ 48 ∷ 32 ∷ 32 ∷ 32 ∷ 32 ∷ 32 ∷ 49 ∷ 54 ∷ 49 ∷ 32 ∷ 32 ∷ 32 ∷ 32 ∷ 32 ∷ 32 ∷ 32 ∷ 32 ∷ 32 ∷ 32 ∷ 32 ∷ 32 ∷ 32 ∷ 32 ∷ 32 ∷ 32 ∷ 10 ∷ []
 
 -- "     2     3     8     3     2     0     2626161            "
-abbrev line-2 : List ℕ
-line-2 = 32 ∷ 32 ∷ 32 ∷ 32 ∷ 32 ∷ 50 ∷ 32 ∷ 32 ∷ 32 ∷ 32 ∷ 32 ∷ 51 ∷ 32 ∷ 32 ∷ 32 ∷ 32 ∷ 32 ∷ 56 ∷ 32 ∷ 32 ∷ 32 ∷ 32 ∷ 32 ∷ 51 ∷ 32 ∷ 32 ∷ 32 ∷ 32 ∷ 32 ∷ 50 ∷ 32 ∷ 32 ∷ 32 ∷ 32 ∷ 32 ∷ 48 ∷ 32 ∷ 32 ∷ 32 ∷ 32 ∷ 32 ∷ 50 ∷ 54 ∷ 50 ∷ 54 ∷ 49 ∷ 54 ∷ 49 ∷ 32 ∷ 32 ∷ 32 ∷ 32 ∷ 32 ∷ 32 ∷ 32 ∷ 32 ∷ 32 ∷ 32 ∷ 32 ∷ 32 ∷ 10 ∷ []
+abbrev line_2 : List ℕ
+line_2 = 32 ∷ 32 ∷ 32 ∷ 32 ∷ 32 ∷ 50 ∷ 32 ∷ 32 ∷ 32 ∷ 32 ∷ 32 ∷ 51 ∷ 32 ∷ 32 ∷ 32 ∷ 32 ∷ 32 ∷ 56 ∷ 32 ∷ 32 ∷ 32 ∷ 32 ∷ 32 ∷ 51 ∷ 32 ∷ 32 ∷ 32 ∷ 32 ∷ 32 ∷ 50 ∷ 32 ∷ 32 ∷ 32 ∷ 32 ∷ 32 ∷ 48 ∷ 32 ∷ 32 ∷ 32 ∷ 32 ∷ 32 ∷ 50 ∷ 54 ∷ 50 ∷ 54 ∷ 49 ∷ 54 ∷ 49 ∷ 32 ∷ 32 ∷ 32 ∷ 32 ∷ 32 ∷ 32 ∷ 32 ∷ 32 ∷ 32 ∷ 32 ∷ 32 ∷ 32 ∷ 10 ∷ []
 
 -- the page of 2,8 of aabaabaa: the blocks aa and baabaa
-pub page_of_2_8 : page byte_form word_aabaabaa (2 ∷ 8 ∷ []) ≡ line-1 ++ line-2
+pub page_of_2_8 : page byte_form word_aabaabaa (2 ∷ 8 ∷ []) ≡ line_1 ++ line_2
 unfolding text_of_blocks page_line line columns symbols digits_in digit_count run_number first_number runs_of rows_before rows_at run_between run? repetition? smallest_period
 page_of_2_8 = refl
 
@@ -36,7 +36,7 @@ unfolding page_outcome split_outcome verdict bad_edition? turns_of text_of_block
 bytes_of_2_8 = refl
 
 -- "An accepted answer changes only the first places that it needs": the byte after them stays
-pub written_2_8 : page_table byte_form word_aabaabaa 1 (2 ∷ 8 ∷ []) (replicate 123 7) ≡ line-1 ++ (line-2 ++ (7 ∷ []))
+pub written_2_8 : page_table byte_form word_aabaabaa 1 (2 ∷ 8 ∷ []) (replicate 123 7) ≡ line_1 ++ (line_2 ++ (7 ∷ []))
 unfolding page_table page_outcome split_outcome verdict bad_edition? turns_of text_of_blocks page_line line columns symbols digits_in digit_count run_number first_number runs_of rows_before rows_at run_between run? repetition? smallest_period
 written_2_8 = refl
 
@@ -94,19 +94,19 @@ unfolding page_outcome split_outcome verdict text_of_blocks bad_edition?
 empty_page = refl
 
 -- a unit of ten symbols, 0, 9, 10, 255 among them: nine are shown
-abbrev word_of-ten : List ℕ
-word_of-ten = 0 ∷ 9 ∷ 10 ∷ 255 ∷ 1 ∷ 2 ∷ 3 ∷ 4 ∷ 5 ∷ 6 ∷ 0 ∷ 9 ∷ 10 ∷ 255 ∷ 1 ∷ 2 ∷ 3 ∷ 4 ∷ 5 ∷ 6 ∷ []
+abbrev word_of_ten : List ℕ
+word_of_ten = 0 ∷ 9 ∷ 10 ∷ 255 ∷ 1 ∷ 2 ∷ 3 ∷ 4 ∷ 5 ∷ 6 ∷ 0 ∷ 9 ∷ 10 ∷ 255 ∷ 1 ∷ 2 ∷ 3 ∷ 4 ∷ 5 ∷ 6 ∷ []
 
-pub page_of_ten_twice : page byte_form word_of-ten (20 ∷ []) ≡ 32 ∷ 32 ∷ 32 ∷ 32 ∷ 32 ∷ 49 ∷ 32 ∷ 32 ∷ 32 ∷ 32 ∷ 32 ∷ 49 ∷ 32 ∷ 32 ∷ 32 ∷ 32 ∷ 50 ∷ 48 ∷ 32 ∷ 32 ∷ 32 ∷ 32 ∷ 49 ∷ 48 ∷ 32 ∷ 32 ∷ 32 ∷ 32 ∷ 32 ∷ 50 ∷ 32 ∷ 32 ∷ 32 ∷ 32 ∷ 32 ∷ 48 ∷ 32 ∷ 32 ∷ 32 ∷ 32 ∷ 32 ∷ 49 ∷ 48 ∷ 48 ∷ 48 ∷ 57 ∷ 48 ∷ 97 ∷ 102 ∷ 102 ∷ 48 ∷ 49 ∷ 48 ∷ 50 ∷ 48 ∷ 51 ∷ 48 ∷ 52 ∷ 48 ∷ 53 ∷ 10 ∷ []
+pub page_of_ten_twice : page byte_form word_of_ten (20 ∷ []) ≡ 32 ∷ 32 ∷ 32 ∷ 32 ∷ 32 ∷ 49 ∷ 32 ∷ 32 ∷ 32 ∷ 32 ∷ 32 ∷ 49 ∷ 32 ∷ 32 ∷ 32 ∷ 32 ∷ 50 ∷ 48 ∷ 32 ∷ 32 ∷ 32 ∷ 32 ∷ 49 ∷ 48 ∷ 32 ∷ 32 ∷ 32 ∷ 32 ∷ 32 ∷ 50 ∷ 32 ∷ 32 ∷ 32 ∷ 32 ∷ 32 ∷ 48 ∷ 32 ∷ 32 ∷ 32 ∷ 32 ∷ 32 ∷ 49 ∷ 48 ∷ 48 ∷ 48 ∷ 57 ∷ 48 ∷ 97 ∷ 102 ∷ 102 ∷ 48 ∷ 49 ∷ 48 ∷ 50 ∷ 48 ∷ 51 ∷ 48 ∷ 52 ∷ 48 ∷ 53 ∷ 10 ∷ []
 unfolding text_of_blocks page_line line columns symbols digits_in digit_count run_number first_number runs_of rows_before rows_at run_between run? repetition? smallest_period
 page_of_ten_twice = refl
 
 -- a unit of five codes, 255, 256, 257, 65,535 among them: four are shown
 -- "     1     1    10     5     2     0     100ff01000101ffff  "
-abbrev word_of-codes : List ℕ
-word_of-codes = 255 ∷ 256 ∷ 257 ∷ 65535 ∷ 43981 ∷ 255 ∷ 256 ∷ 257 ∷ 65535 ∷ 43981 ∷ []
+abbrev word_of_codes : List ℕ
+word_of_codes = 255 ∷ 256 ∷ 257 ∷ 65535 ∷ 43981 ∷ 255 ∷ 256 ∷ 257 ∷ 65535 ∷ 43981 ∷ []
 
-pub page_of_five_codes_twice : page code_form word_of-codes (10 ∷ []) ≡ 32 ∷ 32 ∷ 32 ∷ 32 ∷ 32 ∷ 49 ∷ 32 ∷ 32 ∷ 32 ∷ 32 ∷ 32 ∷ 49 ∷ 32 ∷ 32 ∷ 32 ∷ 32 ∷ 49 ∷ 48 ∷ 32 ∷ 32 ∷ 32 ∷ 32 ∷ 32 ∷ 53 ∷ 32 ∷ 32 ∷ 32 ∷ 32 ∷ 32 ∷ 50 ∷ 32 ∷ 32 ∷ 32 ∷ 32 ∷ 32 ∷ 48 ∷ 32 ∷ 32 ∷ 32 ∷ 32 ∷ 32 ∷ 49 ∷ 48 ∷ 48 ∷ 102 ∷ 102 ∷ 48 ∷ 49 ∷ 48 ∷ 48 ∷ 48 ∷ 49 ∷ 48 ∷ 49 ∷ 102 ∷ 102 ∷ 102 ∷ 102 ∷ 32 ∷ 32 ∷ 10 ∷ []
+pub page_of_five_codes_twice : page code_form word_of_codes (10 ∷ []) ≡ 32 ∷ 32 ∷ 32 ∷ 32 ∷ 32 ∷ 49 ∷ 32 ∷ 32 ∷ 32 ∷ 32 ∷ 32 ∷ 49 ∷ 32 ∷ 32 ∷ 32 ∷ 32 ∷ 49 ∷ 48 ∷ 32 ∷ 32 ∷ 32 ∷ 32 ∷ 32 ∷ 53 ∷ 32 ∷ 32 ∷ 32 ∷ 32 ∷ 32 ∷ 50 ∷ 32 ∷ 32 ∷ 32 ∷ 32 ∷ 32 ∷ 48 ∷ 32 ∷ 32 ∷ 32 ∷ 32 ∷ 32 ∷ 49 ∷ 48 ∷ 48 ∷ 102 ∷ 102 ∷ 48 ∷ 49 ∷ 48 ∷ 48 ∷ 48 ∷ 49 ∷ 48 ∷ 49 ∷ 102 ∷ 102 ∷ 102 ∷ 102 ∷ 32 ∷ 32 ∷ 10 ∷ []
 unfolding text_of_blocks page_line line columns symbols digits_in digit_count run_number first_number runs_of rows_before rows_at run_between run? repetition? smallest_period
 page_of_five_codes_twice = refl
 

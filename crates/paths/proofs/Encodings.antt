@@ -9,8 +9,8 @@ use native.Mathlib.Omega.{arith}
 use native.Mathlib.Nat.{mul-le-mul_right}
 use lib.ListN.{length}
 use Rattle.periods.specs.Period.{part, smallest_period}
-use Rattle.periods.proofs.InPlace.{SmallestIn, symbol, part-smallest_out, smallest_unique}
-use Rattle.periods.proofs.Claims.{smallest_period-unique}
+use Rattle.periods.proofs.InPlace.{SmallestIn, symbol, part_smallest_out, smallest_unique}
+use Rattle.periods.proofs.Claims.{smallest_period_unique}
 use Rattle.runs.specs.declared.Record.{Record}
 use Rattle.runs.specs.Run.{Entry, Lists}
 use Rattle.nodes.specs.Node.{White}
@@ -265,8 +265,8 @@ module _ (allowed : ℕ → Bool) (k : ℕ) (w : List ℕ) where
     -- CLAIM: and as a word of its own
     pub segment_period : (r i j : ℕ) (S : Segment allowed k w r i j) → S.run.period ≡ smallest_period (part w i j)
     segment_period r i j S =
-        sym (smallest_period-unique (part w i j) S.run.period
-        (part-smallest_out w i j S.run.period (segment_within r i j S) (segment_smallest r i j S)))
+        sym (smallest_period_unique (part w i j) S.run.period
+        (part_smallest_out w i j S.run.period (segment_within r i j S) (segment_smallest r i j S)))
 
     -- CLAIM: a segment is a block
     pub segment_block : (r i j : ℕ) → Segment allowed k w r i j → Block allowed k w i j

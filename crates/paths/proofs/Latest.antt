@@ -28,7 +28,7 @@ use Rattle.paths.specs.Graph.{Segment}
 use Rattle.paths.specs.LookUp.{entry_of, last_number, starts_by, latest_number}
 use Rattle.paths.specs.Calls.{in_run?}
 use Rattle.paths.proofs.Encodings.{segment_period, segment_block, block_segment}
-use Rattle.paths.proofs.PathClaims.{run_number-segment}
+use Rattle.paths.proofs.PathClaims.{run_number_segment}
 use Rattle.paths.proofs.PathJudgeClaims.{segment_decides}
 
 -- ---- the number of the last record that passes a test
@@ -141,7 +141,7 @@ module _ (allowed : ℕ → Bool) (k : ℕ) (two : 2 ≤ k) (w : List ℕ) (r i 
 -- CLAIM: so it has the number of a block's run
 pub block_latest : (allowed : ℕ → Bool) (w : List ℕ) (i j p : ℕ) → Block allowed 2 w i j → p ≡ smallest_period (part w i j) → latest_number w p i ≡ run_number w i j
 block_latest allowed w i j p K e =
-    ap (λ (q : ℕ). latest_number w q i) e ∙ latest_run allowed 2 (omega arith) w (run_number w i j) i j (run_number-segment allowed 2 (omega arith) w i j K)
+    ap (λ (q : ℕ). latest_number w q i) e ∙ latest_run allowed 2 (omega arith) w (run_number w i j) i j (run_number_segment allowed 2 (omega arith) w i j K)
 
 -- ---- whether a piece lies in the run with a number
 

@@ -15,7 +15,7 @@ use lib.Seq.{get_or-set_same, get_or-set_other}
 use Rattle.answers.specs.Outcome.{limit}
 use Rattle.laws.proofs.Stores.{sets-front}
 use Rattle.periods.specs.Period.{part, smallest_period, held_period, unit_memory, repetition?, block_unit}
-use Rattle.periods.proofs.Claims.{part-smallest}
+use Rattle.periods.proofs.Claims.{part_smallest}
 use Rattle.runs.specs.declared.Record.{Record}
 use Rattle.runs.specs.declared.Listing.TheVariants.{Keys}
 use Rattle.runs.specs.Run.{Entry}
@@ -61,9 +61,9 @@ pub passed_none : (keys : List ℕ) → passed 0 keys ≡ []
 unfolding passed
 passed_none keys = refl
 
-passed-more : (keys : List ℕ) (c : ℕ) → passed (c + 1) keys ≡ passed c keys ++ (of_key (get_or keys c 0) ∷ [])
+passed_more : (keys : List ℕ) (c : ℕ) → passed (c + 1) keys ≡ passed c keys ++ (of_key (get_or keys c 0) ∷ [])
 unfolding passed
-passed-more keys c = rw (add-one c) refl
+passed_more keys c = rw (add-one c) refl
 
 length-passed : (keys : List ℕ) (c : ℕ) → length (passed c keys) ≡ c
 unfolding passed
@@ -100,7 +100,7 @@ noted_later keys count i j next latest h N = record { within = N.within; early =
 -- the last with a unit among one run more
 last_next : (keys : List ℕ) (next p : ℕ) → last_number (has_period p) (passed (next + 1) keys) ≡ cond (eqb (get_or keys next 0 % key_step) p) (next + 1) (last_number (has_period p) (passed next keys))
 last_next keys next p =
-    ap (last_number (has_period p)) (passed-more keys next) ∙ last_more (has_period p) (passed next keys) (of_key (get_or keys next 0))
+    ap (last_number (has_period p)) (passed_more keys next) ∙ last_more (has_period p) (passed next keys) (of_key (get_or keys next 0))
     ∙ ap (λ (m : ℕ). cond (eqb (get_or keys next 0 % key_step) p) m (last_number (has_period p) (passed next keys))) (omega (arith, length-passed keys next))
 
 pub noted_more : (keys : List ℕ) (count i next : ℕ) (latest : List ℕ) → Noted keys count i next latest → next < count → get_or keys next 0 / key_step ≤ i + 1
@@ -168,7 +168,7 @@ module _ (w keys : List ℕ) (count i next : ℕ) (latest : List ℕ) (K : Keyed
   late_last p (suc d) h =
       let e : next + suc d ≡ next + d + 1 = omega arith in
       ap (λ (c : ℕ). last_number (starts_by p i) (passed c keys)) e
-      ∙ ap (last_number (starts_by p i)) (passed-more keys (next + d))
+      ∙ ap (last_number (starts_by p i)) (passed_more keys (next + d))
       ∙ last_more (starts_by p i) (passed (next + d) keys) (of_key (get_or keys (next + d) 0))
       ∙ rw (lt-leb (get_or keys (next + d) 0 / key_step) (i + 1) (later (next + d) (omega arith) (omega arith))) (late_last p d (omega arith))
 
@@ -214,7 +214,7 @@ module _ (turns : ℕ) (w : List ℕ) (i j : ℕ) (up : i < j) (within : j ≤ l
   unit_none e = go (repetition? held_period turns (part w i j)) refl e
     where
       go : (b : Bool) → repetition? held_period turns (part w i j) ≡ b → cond b (smallest_period (part w i j)) 0 ≡ 0 → block? held_period turns w i j ≡ false
-      go true f h = absurd (omega (arith, (part-smallest w i j within up).period.positive))
+      go true f h = absurd (omega (arith, (part_smallest w i j within up).period.positive))
       go false f h = rw (le-leb j (length w) within) f
 
   pub unit_some : (u : ℕ) → u ≡ block_unit turns (part w i j) → 1 ≤ u → (block? held_period turns w i j ≡ true) × (u ≡ smallest_period (part w i j))

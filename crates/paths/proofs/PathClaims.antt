@@ -59,9 +59,9 @@ module _ (allowed : ℕ → Bool) (k : ℕ) (two : 2 ≤ k) (w : List ℕ) (i j 
       }
 
   -- CLAIM: the number is that of the one run that encloses the block and has its unit
-  pub run_number-segment : Block allowed k w i j → Segment allowed k w (run_number w i j) i j
+  pub run_number_segment : Block allowed k w i j → Segment allowed k w (run_number w i j) i j
   unfolding run_number
-  run_number-segment K = go (first_number (encloses? i j (smallest_period (part w i j))) (runs_of w)) refl
+  run_number_segment K = go (first_number (encloses? i j (smallest_period (part w i j))) (runs_of w)) refl
     where
       go : (m : ℕ) → first_number (encloses? i j (smallest_period (part w i j))) (runs_of w) ≡ m → Segment allowed k w m i j
       go zero e =
@@ -69,8 +69,8 @@ module _ (allowed : ℕ → Bool) (k : ℕ) (two : 2 ≤ k) (w : List ℕ) (i j 
           absurd (first_none (encloses? i j (smallest_period (part w i j))) (runs_of w) e s.0 (segment_encloses s.0 s.1))
       go (suc m) e = enclosing_segment K (suc m) (first_sound (encloses? i j (smallest_period (part w i j))) (runs_of w) m e)
 
-  pub run_number-unique : Block allowed k w i j → (r : ℕ) → Segment allowed k w r i j → run_number w i j ≡ r
-  run_number-unique K r S = segment_one_number allowed k w two (run_number w i j) r i j (run_number-segment K) S
+  pub run_number_unique : Block allowed k w i j → (r : ℕ) → Segment allowed k w r i j → run_number w i j ≡ r
+  run_number_unique K r S = segment_one_number allowed k w two (run_number w i j) r i j (run_number_segment K) S
 
 -- the run numbers and the ends, one after the other
 pairs : List ℕ → List ℕ → List ℕ
@@ -85,7 +85,7 @@ unfolding pairs of_blocks
 numbers_segments allowed k two w [] i h = (h, refl, refl)
 numbers_segments allowed k two w (e ∷ es) i h =
     let r = numbers_segments allowed k two w es e h.1 in
-    ((run_number-segment allowed k two w i e h.0, r.0), ap (λ (x : List ℕ). run_number w i e ∷ x) r.1, ap (λ (x : List ℕ). e ∷ x) r.2)
+    ((run_number_segment allowed k two w i e h.0, r.0), ap (λ (x : List ℕ). run_number w i e ∷ x) r.1, ap (λ (x : List ℕ). e ∷ x) r.2)
 
 -- CLAIM: the run numbers are those of the one path that goes with the split
 pub numbers_path : (allowed : ℕ → Bool) (k : ℕ) → 2 ≤ k → (w ends : List ℕ) → Factorization (Block allowed k w) (length w) ends

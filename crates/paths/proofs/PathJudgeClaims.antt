@@ -98,8 +98,8 @@ module _ (allowed : ℕ → Bool) (turns : ℕ) (two : 2 ≤ turns) (w : List �
       let z : k + 0 ≡ k = omega arith in
       subst (λ (m : ℕ). T (t (suc m) i j) ↔ Segment allowed turns w r i j) z (A 0 i j)
 
-  agrees-rest : (k r e : ℕ) (ns : List ℕ) → Agrees k (r ∷ e ∷ ns) → Agrees (suc k) ns
-  agrees-rest k r e ns A m i j =
+  agrees_rest : (k r e : ℕ) (ns : List ℕ) → Agrees k (r ∷ e ∷ ns) → Agrees (suc k) ns
+  agrees_rest k r e ns A m i j =
       let z : k + suc m ≡ suc k + m = omega arith in
       subst (λ (x : ℕ). T (t (suc x) i j) ↔ Segment allowed turns w (get_or (runs_of_pairs ns) m 0) i j) z (A (suc m) i j)
 
@@ -112,7 +112,7 @@ module _ (allowed : ℕ → Bool) (turns : ℕ) (two : 2 ≤ turns) (w : List �
       go (no z) = absurd (refused_accepted _ 5 0 v (verdict_unfinished t (length w) k i z) h)
   accepted_segments (r ∷ []) k i v q A h = absurd (omega arith)
   accepted_segments (r ∷ e ∷ ns) k i v q A h =
-      go (λ g. accepted_segments ns (suc k) e v (omega arith) (agrees-rest k r e ns A) g) (dec_lt i e) (dec_le e (length w)) (t (suc k) i e) refl
+      go (λ g. accepted_segments ns (suc k) e v (omega arith) (agrees_rest k r e ns A) g) (dec_lt i e) (dec_le e (length w)) (t (suc k) i e) refl
     where
       es : List ℕ
       es = ends_of_pairs ns
@@ -132,7 +132,7 @@ module _ (allowed : ℕ → Bool) (turns : ℕ) (two : 2 ≤ turns) (w : List �
   segments_accepted (r ∷ e ∷ ns) k i A s =
       verdict_block t (length w) k i e (ends_of_pairs ns) (block_up allowed turns w i e (segment_block allowed turns w two r i e s.0))
       (segment_within allowed turns w r i e s.0) (T_true (t (suc k) i e) ((agrees_first k r e ns A i e).1 s.0))
-      ∙ segments_accepted ns (suc k) e (agrees-rest k r e ns A) s.1 ∙ ap (λ (x : ℕ). accepted (x ∷ [])) (omega arith)
+      ∙ segments_accepted ns (suc k) e (agrees_rest k r e ns A) s.1 ∙ ap (λ (x : ℕ). accepted (x ∷ [])) (omega arith)
 
 module _ (allowed : ℕ → Bool) (turns : ℕ) (w ns : List ℕ) where
   pub decides : (m i j : ℕ) → (T (segment? allowed turns w ns m i j) ↔ Segment allowed turns w (number_given ns m) i j)

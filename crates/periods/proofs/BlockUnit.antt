@@ -12,7 +12,7 @@ use lib.Dec.{T, leb, eqb, leb→le, le→leb}
 use lib.ListN.{length}
 use Rattle.laws.proofs.Tests.{and_intro, and_left, and_right, T_true}
 use Rattle.periods.specs.Period.{Period, SmallestPeriod, Repetition, smallest_period, repetition?, unit_memory, held_period, block_of?, block_unit}
-use Rattle.periods.proofs.Claims.{smallest_period-unique, repetition_by_unit, repetition_sound, repetition_complete}
+use Rattle.periods.proofs.Claims.{smallest_period_unique, repetition_by_unit, repetition_sound, repetition_complete}
 
 -- a part cannot be a block of a greater unit either
 pub block_of_less : (k len u v : ℕ) → u ≤ v → T (block_of? k len v) → T (block_of? k len u)
@@ -31,10 +31,10 @@ block_of_means k len u e =
 
 module _ (k : ℕ) (s : List ℕ) where
   -- the smallest period, if a block of the length can have it
-  pub block_unit-found : (p : ℕ) → SmallestPeriod s p → block_of? k (length s) p ≡ true → p ≡ block_unit k s
+  pub block_unit_found : (p : ℕ) → SmallestPeriod s p → block_of? k (length s) p ≡ true → p ≡ block_unit k s
   unfolding block_unit
-  block_unit-found p S t =
-      let e = smallest_period-unique s p S in
+  block_unit_found p S t =
+      let e = smallest_period_unique s p S in
       rw (repetition_by_unit held_period k s (omega (arith, S.period.positive, S.period.fits)), e, t) refl
 
   -- no number below p is a period, and no block of the length has the unit p
@@ -56,16 +56,16 @@ module _ (k : ℕ) (s : List ℕ) where
                   (and_intro (leb (k * R.period) (length s)) (held_period R.period) (le→leb (k * R.period) (length s) R.long) R.permitted))
 
   -- where it is not 0 the word is a block, and it is its unit
-  pub block_unit-tells : not (eqb (block_unit k s) 0) ≡ repetition? held_period k s
+  pub block_unit_tells : not (eqb (block_unit k s) 0) ≡ repetition? held_period k s
   unfolding block_unit
-  block_unit-tells = go (repetition? held_period k s) refl
+  block_unit_tells = go (repetition? held_period k s) refl
     where
       go : (b : Bool) → repetition? held_period k s ≡ b → not (eqb (cond b (smallest_period s) 0) 0) ≡ b
       go false e = refl
       go true e =
           let R = repetition_sound held_period k s (subst T (sym e) tt) in
-          rw (ne_eqb (smallest_period s) 0 (λ z. omega (arith, z, smallest_period-unique s R.period R.smallest, R.smallest.period.positive))) refl
+          rw (ne_eqb (smallest_period s) 0 (λ z. omega (arith, z, smallest_period_unique s R.period R.smallest, R.smallest.period.positive))) refl
 
-  pub block_unit-of_block : Repetition held_period k s → block_unit k s ≡ smallest_period s
+  pub block_unit_of_block : Repetition held_period k s → block_unit k s ≡ smallest_period s
   unfolding block_unit
-  block_unit-of_block R = rw (T_true (repetition? held_period k s) (repetition_complete held_period k s R)) refl
+  block_unit_of_block R = rw (T_true (repetition? held_period k s) (repetition_complete held_period k s R)) refl

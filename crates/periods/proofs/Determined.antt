@@ -13,8 +13,8 @@ use Rattle.answers.specs.Outcome.{Outcome, accepted}
 use Rattle.periods.specs.Period.{part, repetition?, held_period, prefix_periods, units_table}
 use Rattle.periods.specs.Edition.{turns_of}
 use Rattle.periods.specs.Part.{flag, description, part_outcome, part_table, Describes, Grows, PartMeaning, too_long, bad_edition, outside, too_few, described}
-use Rattle.periods.proofs.Claims.{smallest_period-unique, prefix_periods-length, prefix_periods-at, repetition_sound, repetition_complete}
-use Rattle.periods.proofs.PartClaims.{part_length, part-too_long, part-bad_edition, part-outside, part-too_few, part-described}
+use Rattle.periods.proofs.Claims.{smallest_period_unique, prefix_periods-length, prefix_periods_at, repetition_sound, repetition_complete}
+use Rattle.periods.proofs.PartClaims.{part_length, part_too_long, part_bad_edition, part_outside, part_too_few, part_described}
 
 -- with a remainder below the divisor, they are the quotient and the remainder of the division
 quotient_is : (u t r n : ℕ) → t * u + r ≡ n → r < u → t ≡ n / u
@@ -28,10 +28,10 @@ flag_is : (b : ℕ) (c : Bool) → b ≤ 1 → (b ≡ 1 → T c) → (T c → b 
 flag_is b true h f g = g tt
 flag_is b false h f g = let n : b ≡ 1 → ⊥ = f in omega (arith, n)
 
-pub description-determined : (k : ℕ) (s : List ℕ) (u t r b : ℕ) → Describes k s u t r b → ◌≡◌ {A = List ℕ} (u ∷ t ∷ r ∷ b ∷ []) (description k s)
+pub description_determined : (k : ℕ) (s : List ℕ) (u t r b : ℕ) → Describes k s u t r b → ◌≡◌ {A = List ℕ} (u ∷ t ∷ r ∷ b ∷ []) (description k s)
 unfolding description
-description-determined k s u t r b D = rw (
-  smallest_period-unique s u D.smallest,
+description_determined k s u t r b D = rw (
+  smallest_period_unique s u D.smallest,
   sym (quotient_is u t r (length s) D.divided D.short),
   sym (remainder_is u t r (length s) D.divided D.short),
   sym block,
@@ -52,8 +52,8 @@ grows_determined s t x u G h =
     same i l =
         let e : suc i - 1 ≡ i = omega arith in
         get_or-take (length s) x i 0 l
-        ∙ sym (smallest_period-unique (take (suc i) s) (get_or x i 0) (rw e at (G.units (suc i) (omega arith) l)))
-        ∙ sym (prefix_periods-at s (length s) i l)
+        ∙ sym (smallest_period_unique (take (suc i) s) (get_or x i 0) (rw e at (G.units (suc i) (omega arith) l)))
+        ∙ sym (prefix_periods_at s (length s) i l)
 
     front : take (length s) x ≡ prefix_periods s (length s)
     front =
@@ -61,15 +61,15 @@ grows_determined s t x u G h =
         (λ i l. same i (omega (arith, length-take (length s) x)))
 
 -- CLAIM: the part call's answer and table are the only ones that mean what the documents say
-pub part-determined : (w : List ℕ) (edition first last : ℕ) (t : List ℕ) (o : Outcome) (x : List ℕ) → PartMeaning w edition first last t o x
+pub part_determined : (w : List ℕ) (edition first last : ℕ) (t : List ℕ) (o : Outcome) (x : List ℕ) → PartMeaning w edition first last t o x
     → (o ≡ part_outcome w edition first last (length t)) × (x ≡ part_table w edition first last t)
-part-determined w edition first last t o x (too_long h e f) = let g = part-too_long w edition first last t h in (e ∙ g.0, f ∙ g.1)
-part-determined w edition first last t o x (bad_edition h i e f) = let g = part-bad_edition w edition first last t h i in (e ∙ g.0, f ∙ g.1)
-part-determined w edition first last t o x (outside h i k e f) = let g = part-outside w edition first last t h i k in (e ∙ g.0, f ∙ g.1)
-part-determined w edition first last t o x (too_few h i k l e f) = let g = part-too_few w edition first last t h i k l in (e ∙ g.0, f ∙ g.1)
-part-determined w edition first last t o x (described h i k l u q r b D e G) =
+part_determined w edition first last t o x (too_long h e f) = let g = part_too_long w edition first last t h in (e ∙ g.0, f ∙ g.1)
+part_determined w edition first last t o x (bad_edition h i e f) = let g = part_bad_edition w edition first last t h i in (e ∙ g.0, f ∙ g.1)
+part_determined w edition first last t o x (outside h i k e f) = let g = part_outside w edition first last t h i k in (e ∙ g.0, f ∙ g.1)
+part_determined w edition first last t o x (too_few h i k l e f) = let g = part_too_few w edition first last t h i k l in (e ∙ g.0, f ∙ g.1)
+part_determined w edition first last t o x (described h i k l u q r b D e G) =
     let s = part w (first - 1) last in
-    let g = part-described w edition first last t h i k l in (
-      e ∙ ap accepted (description-determined (turns_of edition) s u q r b D) ∙ g.0,
+    let g = part_described w edition first last t h i k l in (
+      e ∙ ap accepted (description_determined (turns_of edition) s u q r b D) ∙ g.0,
       grows_determined s t x u G (omega (arith, part_length w first last k)) ∙ g.1,
     )

@@ -9,13 +9,13 @@ use Rattle.laws.proofs.OneOrTwo.{one_or_two?, test_of_one_or_two, test_of_other,
 use Rattle.periods.specs.Edition.{Edition, turns_of, bad_edition?, Turns}
 
 -- CLAIM: edition 1 has two turns, edition 2 has three
-pub turns_of-edition_1 : turns_of 1 ≡ 2
+pub turns_of_edition_1 : turns_of 1 ≡ 2
 unfolding turns_of
-turns_of-edition_1 = refl
+turns_of_edition_1 = refl
 
-pub turns_of-edition_2 : turns_of 2 ≡ 3
+pub turns_of_edition_2 : turns_of 2 ≡ 3
 unfolding turns_of
-turns_of-edition_2 = refl
+turns_of_edition_2 = refl
 
 -- every turn number is 2 or 3
 pub turns_range : (e : ℕ) → Turns (turns_of e)

@@ -10,77 +10,77 @@ use Rattle.periods.specs.Period.{smallest_period, repetition?, prefix_periods, u
 use Rattle.periods.specs.Square.{twice, power, Primitive, square?}
 use Rattle.periods.specs.Edition.{bad_edition?, turns_of}
 use Rattle.periods.specs.Part.{part_outcome, part_table, description}
-use Rattle.periods.proofs.Squares.{power-empty}
+use Rattle.periods.proofs.Squares.{power_empty}
 use Rattle.periods.proofs.Words.{one_and, word_a, word_aa, word_aaa, word_aaaa, word_aaaaa, word_aabaabaa, word_ab, word_ababa, word_empty}
 
 -- "ababa * | 5 (unit 2, turns 2, rest 1)"
-pub part-of_ababa : part_outcome word_ababa 1 1 5 5 ≡ accepted (2 ∷ 2 ∷ 1 ∷ 1 ∷ [])
+pub part_of_ababa : part_outcome word_ababa 1 1 5 5 ≡ accepted (2 ∷ 2 ∷ 1 ∷ 1 ∷ [])
 unfolding part_outcome description repetition? smallest_period bad_edition? turns_of
-part-of_ababa = refl
+part_of_ababa = refl
 
 -- the block of the printed text: "block,1,1,8,3,2,2,2"
-pub part-of_aabaabaa : part_outcome word_aabaabaa 1 1 8 8 ≡ accepted (3 ∷ 2 ∷ 2 ∷ 1 ∷ [])
+pub part_of_aabaabaa : part_outcome word_aabaabaa 1 1 8 8 ≡ accepted (3 ∷ 2 ∷ 2 ∷ 1 ∷ [])
 unfolding part_outcome description repetition? smallest_period bad_edition? turns_of
-part-of_aabaabaa = refl
+part_of_aabaabaa = refl
 
 -- the single symbol has a period, itself, and is no block
-pub part-of_one : part_outcome word_ababa 1 2 2 1 ≡ accepted (1 ∷ 1 ∷ 0 ∷ 0 ∷ [])
+pub part_of_one : part_outcome word_ababa 1 2 2 1 ≡ accepted (1 ∷ 1 ∷ 0 ∷ 0 ∷ [])
 unfolding part_outcome description repetition? smallest_period bad_edition? turns_of
-part-of_one = refl
+part_of_one = refl
 
 -- "In edition 2 a block has length ≥ 3 × unit": ababa has two turns, aaaaa five; unit, turns and rest stay
-pub part-of_ababa_in_2 : part_outcome word_ababa 2 1 5 5 ≡ accepted (2 ∷ 2 ∷ 1 ∷ 0 ∷ [])
+pub part_of_ababa_in_2 : part_outcome word_ababa 2 1 5 5 ≡ accepted (2 ∷ 2 ∷ 1 ∷ 0 ∷ [])
 unfolding part_outcome description repetition? smallest_period bad_edition? turns_of
-part-of_ababa_in_2 = refl
+part_of_ababa_in_2 = refl
 
-pub part-of_aaaaa_in_2 : part_outcome word_aaaaa 2 1 5 5 ≡ accepted (1 ∷ 5 ∷ 0 ∷ 1 ∷ [])
+pub part_of_aaaaa_in_2 : part_outcome word_aaaaa 2 1 5 5 ≡ accepted (1 ∷ 5 ∷ 0 ∷ 1 ∷ [])
 unfolding part_outcome description repetition? smallest_period bad_edition? turns_of
-part-of_aaaaa_in_2 = refl
+part_of_aaaaa_in_2 = refl
 
 -- exactly three turns are enough
-pub part-of_aaa_in_2 : part_outcome word_aaa 2 1 3 3 ≡ accepted (1 ∷ 3 ∷ 0 ∷ 1 ∷ [])
+pub part_of_aaa_in_2 : part_outcome word_aaa 2 1 3 3 ≡ accepted (1 ∷ 3 ∷ 0 ∷ 1 ∷ [])
 unfolding part_outcome description repetition? smallest_period bad_edition? turns_of
-part-of_aaa_in_2 = refl
+part_of_aaa_in_2 = refl
 
 -- "12, an edition other than 1 or 2, directly after 1": before 6 and 7
-pub part-edition_0 : part_outcome word_ababa 0 0 5 0 ≡ refused 12 0
+pub part_edition_0 : part_outcome word_ababa 0 0 5 0 ≡ refused 12 0
 unfolding part_outcome bad_edition?
-part-edition_0 = refl
+part_edition_0 = refl
 
-pub part-edition_3 : part_outcome word_ababa 3 4 3 0 ≡ refused 12 0
+pub part_edition_3 : part_outcome word_ababa 3 4 3 0 ≡ refused 12 0
 unfolding part_outcome bad_edition?
-part-edition_3 = refl
+part_edition_3 = refl
 
-pub part-too_long_before_edition : part_outcome (replicate 70001 97) 3 1 1 0 ≡ refused 1 0
+pub part_too_long_before_edition : part_outcome (replicate 70001 97) 3 1 1 0 ≡ refused 1 0
 unfolding part_outcome
-part-too_long_before_edition = refl
+part_too_long_before_edition = refl
 
 -- "6: first below 1, last above n or first above last"; 7 comes "after 6"
-pub part-first_zero : part_outcome word_ababa 1 0 5 0 ≡ refused 6 0
+pub part_first_zero : part_outcome word_ababa 1 0 5 0 ≡ refused 6 0
 unfolding part_outcome bad_edition?
-part-first_zero = refl
+part_first_zero = refl
 
-pub part-last_above : part_outcome word_ababa 1 1 6 0 ≡ refused 6 0
+pub part_last_above : part_outcome word_ababa 1 1 6 0 ≡ refused 6 0
 unfolding part_outcome bad_edition?
-part-last_above = refl
+part_last_above = refl
 
 pub part_turned : part_outcome word_ababa 1 4 3 0 ≡ refused 6 0
 unfolding part_outcome bad_edition?
 part_turned = refl
 
-pub part-of_empty : part_outcome [] 1 1 0 0 ≡ refused 6 0
+pub part_of_empty : part_outcome [] 1 1 0 0 ≡ refused 6 0
 unfolding part_outcome bad_edition?
-part-of_empty = refl
+part_of_empty = refl
 
 -- "70,001 passes": 1 comes before 6
-pub part-too_long_first : part_outcome (replicate 70001 97) 1 0 0 0 ≡ refused 1 0
+pub part_too_long_first : part_outcome (replicate 70001 97) 1 0 0 0 ≡ refused 1 0
 unfolding part_outcome bad_edition?
-part-too_long_first = refl
+part_too_long_first = refl
 
 -- "The limit of the library becomes 70,000": so many are taken
-pub part-longest : part_outcome (replicate 70000 97) 1 0 0 0 ≡ refused 6 0
+pub part_longest : part_outcome (replicate 70000 97) 1 0 0 0 ≡ refused 6 0
 unfolding part_outcome bad_edition?
-part-longest = refl
+part_longest = refl
 
 -- "Taking any period as the unit: aaaa then has two paths for one split." Its unit is 1.
 pub smallest_of_aaaa : smallest_period (97 ∷ 97 ∷ 97 ∷ 97 ∷ []) ≡ 1
@@ -132,9 +132,9 @@ unfolding part_table units_table prefix_periods smallest_period bad_edition?
 units_from_3 = refl
 
 -- a place short: 7, and the table keeps its contents
-pub part-a_place_short : part_outcome word_ababa 1 1 5 4 ≡ refused 7 0
+pub part_a_place_short : part_outcome word_ababa 1 1 5 4 ≡ refused 7 0
 unfolding part_outcome bad_edition?
-part-a_place_short = refl
+part_a_place_short = refl
 
 pub units_a_place_short : part_table word_ababa 1 1 5 (replicate 4 7) ≡ replicate 4 7
 unfolding part_table bad_edition?
@@ -165,7 +165,7 @@ pub a_primitive : Primitive word_a
 a_primitive x (suc (suc k)) two e = go x e
   where
     go : (x : List ℕ) → word_a ≡ power (suc (suc k)) x → ⊥
-    go [] e = omega (arith, ap length (e ∙ power-empty (suc (suc k))))
+    go [] e = omega (arith, ap length (e ∙ power_empty (suc (suc k))))
     go (y ∷ ys) e = omega (arith, ap length e, length-append (power (suc k) (y ∷ ys)) (y ∷ ys), length-append (power k (y ∷ ys)) (y ∷ ys))
 a_primitive x (suc zero) two e = omega arith
 a_primitive x zero two e = omega arith
@@ -198,6 +198,6 @@ pub no_square_of_codes : square? (1 ∷ 257 ∷ []) ≡ false
 unfolding square?
 no_square_of_codes = refl
 
-pub part-of_codes : part_outcome (255 ∷ 256 ∷ 257 ∷ 65535 ∷ 255 ∷ 256 ∷ 257 ∷ 65535 ∷ 255 ∷ []) 1 1 9 9 ≡ accepted (4 ∷ 2 ∷ 1 ∷ 1 ∷ [])
+pub part_of_codes : part_outcome (255 ∷ 256 ∷ 257 ∷ 65535 ∷ 255 ∷ 256 ∷ 257 ∷ 65535 ∷ 255 ∷ []) 1 1 9 9 ≡ accepted (4 ∷ 2 ∷ 1 ∷ 1 ∷ [])
 unfolding part_outcome description repetition? smallest_period bad_edition? turns_of
-part-of_codes = refl
+part_of_codes = refl

@@ -1,6 +1,6 @@
 -- Periods of a part in its place: between the boundaries a and b of a sequence of symbols `f : ℕ → ℕ`, counted from 0. A word handed on by itself has
 -- the periods that it has in its place (`period_in`, `period_out`), so that laws about slices and prefixes are laws about places; so has a part of a word
--- (`part-smallest_in`, `part-smallest_out`). And a part that is cut in two (`part_cut`). Assumes nothing.
+-- (`part_smallest_in`, `part_smallest_out`). And a part that is cut in two (`part_cut`). Assumes nothing.
 use mathlib.Core.Path.{◌≡◌, refl, sym, ap, ◌∙◌, subst}
 use mathlib.Core.List.{List, ◌++◌}
 use Prim.Native.Nat.{ℕ, suc, ◌+◌, ◌-◌, ◌≤◌, ◌<◌}
@@ -80,23 +80,23 @@ part_cut w u v a c b h k l long e =
       sym (drop_at (part w a c) (part w c b) (c - a) n) ∙ ap (drop (c - a)) q ∙ drop_at u v (c - a) long,
     )
 
-pub part-period_in : (w : List ℕ) (a b p : ℕ) → b ≤ length w → Period (part w a b) p → PeriodIn (symbol w) a b p
-part-period_in w a b p h Q =
+pub part_period_in : (w : List ℕ) (a b p : ℕ) → b ≤ length w → Period (part w a b) p → PeriodIn (symbol w) a b p
+part_period_in w a b p h Q =
     let P = placed_part w a b h in
     subst (λ (e : ℕ). PeriodIn (symbol w) a e p) (omega (arith, P.long, Q.positive, Q.fits)) (period_in (symbol w) a (b - a) (part w a b) P p Q)
 
-pub part-period_out : (w : List ℕ) (a b p : ℕ) → b ≤ length w → PeriodIn (symbol w) a b p → Period (part w a b) p
-part-period_out w a b p h Q =
+pub part_period_out : (w : List ℕ) (a b p : ℕ) → b ≤ length w → PeriodIn (symbol w) a b p → Period (part w a b) p
+part_period_out w a b p h Q =
     period_out (symbol w) a (b - a) (part w a b) (placed_part w a b h) p (subst (λ (e : ℕ). PeriodIn (symbol w) a e p) (omega (arith, Q.positive, Q.fits)) Q)
 
-pub part-smallest_in : (w : List ℕ) (a b p : ℕ) → b ≤ length w → SmallestPeriod (part w a b) p → SmallestIn (symbol w) a b p
-part-smallest_in w a b p h S =
+pub part_smallest_in : (w : List ℕ) (a b p : ℕ) → b ≤ length w → SmallestPeriod (part w a b) p → SmallestIn (symbol w) a b p
+part_smallest_in w a b p h S =
     let P = placed_part w a b h in
     subst (λ (e : ℕ). SmallestIn (symbol w) a e p) (omega (arith, P.long, S.period.positive, S.period.fits))
     (smallest_in (symbol w) a (b - a) (part w a b) P p S)
 
-pub part-smallest_out : (w : List ℕ) (a b p : ℕ) → b ≤ length w → SmallestIn (symbol w) a b p → SmallestPeriod (part w a b) p
-part-smallest_out w a b p h S =
+pub part_smallest_out : (w : List ℕ) (a b p : ℕ) → b ≤ length w → SmallestIn (symbol w) a b p → SmallestPeriod (part w a b) p
+part_smallest_out w a b p h S =
     smallest_out (symbol w) a (b - a) (part w a b) (placed_part w a b h) p
     (subst (λ (e : ℕ). SmallestIn (symbol w) a e p) (omega (arith, S.period.positive, S.period.fits)) S)
 

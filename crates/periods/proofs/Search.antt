@@ -16,10 +16,10 @@ all_sound t i (suc d) h j x y = go (all_sound t (suc i) d (and_right (t i) (all 
     go ih (yes z) = subst (λ (n : ℕ). T (t n)) z (and_left (t i) (all t (suc i) d) h)
     go ih (no z) = ih j (omega arith) (omega arith)
 
-pub all-complete : (t : ℕ → Bool) (i d : ℕ) → ((j : ℕ) → i ≤ j → j < i + d → T (t j)) → T (all t i d)
-all-complete t i zero h = tt
-all-complete t i (suc d) h =
-    and_intro (t i) (all t (suc i) d) (h i (omega arith) (omega arith)) (all-complete t (suc i) d (λ j x y. h j (omega arith) (omega arith)))
+pub all_complete : (t : ℕ → Bool) (i d : ℕ) → ((j : ℕ) → i ≤ j → j < i + d → T (t j)) → T (all t i d)
+all_complete t i zero h = tt
+all_complete t i (suc d) h =
+    and_intro (t i) (all t (suc i) d) (h i (omega arith) (omega arith)) (all_complete t (suc i) d (λ j x y. h j (omega arith) (omega arith)))
 
 -- r is what the search for the first of the d numbers from p on gives
 pub record Sought (t : ℕ → Bool) (d p r : ℕ) : Type 0 where
@@ -28,9 +28,9 @@ pub record Sought (t : ℕ → Bool) (d p r : ℕ) : Type 0 where
   pub missed : (q : ℕ) → p ≤ q → q < r → T (t q) → ⊥
   pub found : r < p + d → T (t r)
 
-pub seek-sought : (t : ℕ → Bool) (d p : ℕ) → Sought t d p (seek t d p)
-seek-sought t zero p = record { from = omega arith; to = omega arith; missed = λ q x y. absurd (omega arith); found = λ x. absurd (omega arith) }
-seek-sought t (suc d) p = go (seek-sought t d (suc p)) (t p) refl
+pub seek_sought : (t : ℕ → Bool) (d p : ℕ) → Sought t d p (seek t d p)
+seek_sought t zero p = record { from = omega arith; to = omega arith; missed = λ q x y. absurd (omega arith); found = λ x. absurd (omega arith) }
+seek_sought t (suc d) p = go (seek_sought t d (suc p)) (t p) refl
   where
     go : Sought t d (suc p) (seek t d (suc p)) → (u : Bool) → t p ≡ u → Sought t (suc d) p (elim u [ true ↦ p | false ↦ seek t d (suc p) ])
     go S true e = record { from = omega arith; to = omega arith; missed = λ q x y. absurd (omega arith); found = λ x. subst T (sym e) tt }

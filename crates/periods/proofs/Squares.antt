@@ -16,7 +16,7 @@ use Rattle.laws.proofs.Tests.{and_intro, and_left, and_right}
 use Rattle.periods.specs.Period.{Period, SmallestPeriod, Repetition, any_period, agrees, smallest_period}
 use Rattle.periods.specs.Square.{twice, power, Primitive, Square, square?}
 use Rattle.periods.proofs.InPlace.{symbol}
-use Rattle.periods.proofs.Claims.{agrees-sound, agrees-complete, smallest_period-is}
+use Rattle.periods.proofs.Claims.{agrees_sound, agrees_complete, smallest_period_is}
 
 -- ---- multiples of a period
 
@@ -117,7 +117,7 @@ module _ (s : List ℕ) where
       let filled = ltb→lt 0 (length s) (and_left (ltb 0 (length s)) (eqb (length s % twice) 0 && agrees s q) h) in
       let t = and_right (ltb 0 (length s)) (eqb (length s % twice) 0 && agrees s q) h in
       let even = eqb→eq (length s % twice) 0 (and_left (eqb (length s % twice) 0) (agrees s q) t) in
-      period_half q (record { positive = omega arith; fits = omega arith; same = agrees-sound s q (and_right (eqb (length s % twice) 0) (agrees s q) t) }) (omega arith)
+      period_half q (record { positive = omega arith; fits = omega arith; same = agrees_sound s q (and_right (eqb (length s % twice) 0) (agrees s q) t) }) (omega arith)
 
   pub square_complete : Square s → T (square? s)
   unfolding square?
@@ -127,7 +127,7 @@ module _ (s : List ℕ) where
       let none : length s % twice ≡ 0 = omega arith in
       and_intro (ltb 0 (length s)) (eqb (length s % twice) 0 && agrees s q) (lt→ltb 0 (length s) (square_filled S))
       (and_intro (eqb (length s % twice) 0) (agrees s q) (subst (λ (x : ℕ). T (eqb x 0)) (sym none) (eqb_refl 0))
-      (agrees-complete s q (half_period q S even).same))
+      (agrees_complete s q (half_period q S even).same))
 
   -- what the test says of a word that is no square
   pub not_square : (Square s → ⊥) → false ≡ square? s
@@ -140,7 +140,7 @@ module _ (s : List ℕ) where
 -- a square has two turns of its unit or more
 pub square_repeats : (s : List ℕ) → Square s → Repetition any_period twice s
 square_repeats s S =
-    let U = smallest_period-is s (square_filled s S) in
+    let U = smallest_period_is s (square_filled s S) in
     record {
       period = smallest_period s;
       smallest = U;
@@ -150,13 +150,13 @@ square_repeats s S =
 
 -- ---- powers
 
-pub power-empty : (k : ℕ) → power k [] ≡ []
-power-empty zero = refl
-power-empty (suc k) = append-nil (power k []) ∙ power-empty k
+pub power_empty : (k : ℕ) → power k [] ≡ []
+power_empty zero = refl
+power_empty (suc k) = append-nil (power k []) ∙ power_empty k
 
-power-commutes : (k : ℕ) (x : List ℕ) → x ++ power k x ≡ power k x ++ x
-power-commutes zero x = append-nil x
-power-commutes (suc k) x = sym (append_assoc x (power k x) x) ∙ ap (λ (z : List ℕ). z ++ x) (power-commutes k x)
+power_commutes : (k : ℕ) (x : List ℕ) → x ++ power k x ≡ power k x ++ x
+power_commutes zero x = append-nil x
+power_commutes (suc k) x = sym (append_assoc x (power k x) x) ∙ ap (λ (z : List ℕ). z ++ x) (power_commutes k x)
 
 -- a power twice over is that power of the word twice over
 pub power-twice : (k : ℕ) (x : List ℕ) → power k x ++ power k x ≡ power k (x ++ x)
@@ -164,14 +164,14 @@ power-twice zero x = refl
 power-twice (suc k) x =
     let p = power k x in
     append_assoc p x (p ++ x)
-    ∙ ap (λ (z : List ℕ). p ++ z) (sym (append_assoc x p x) ∙ ap (λ (z : List ℕ). z ++ x) (power-commutes k x) ∙ append_assoc p x x)
+    ∙ ap (λ (z : List ℕ). p ++ z) (sym (append_assoc x p x) ∙ ap (λ (z : List ℕ). z ++ x) (power_commutes k x) ∙ append_assoc p x x)
     ∙ sym (append_assoc p p (x ++ x)) ∙ ap (λ (z : List ℕ). z ++ (x ++ x)) (power-twice k x)
 
 -- CLAIM: a square's half that is its unit is primitive
 pub unit_half_primitive : (s : List ℕ) (S : Square s) → SmallestPeriod s (length S.half) → Primitive S.half
 unit_half_primitive s S U x zero two e = omega arith
 unit_half_primitive s S U x (suc zero) two e = omega arith
-unit_half_primitive s S U [] (suc (suc k)) two e = omega (arith, S.filled, ap length (e ∙ power-empty (suc (suc k))))
+unit_half_primitive s S U [] (suc (suc k)) two e = omega (arith, S.filled, ap length (e ∙ power_empty (suc (suc k))))
 unit_half_primitive s S U (y ∷ ys) (suc (suc k)) two e =
     omega (arith, U.least (length x) (commuting_period s x (t ++ u) front behind (omega arith)), ap length e, length-append t x, length-append (power k x) x)
   where
@@ -187,10 +187,10 @@ unit_half_primitive s S U (y ∷ ys) (suc (suc k)) two e =
 
     front : s ≡ x ++ (t ++ u)
     front =
-        S.twice_over ∙ ap (λ (z : List ℕ). z ++ u) (e ∙ sym (power-commutes (suc k) x)) ∙ append_assoc x t u
+        S.twice_over ∙ ap (λ (z : List ℕ). z ++ u) (e ∙ sym (power_commutes (suc k) x)) ∙ append_assoc x t u
 
     behind : s ≡ (t ++ u) ++ x
     behind =
         S.twice_over ∙ ap (λ (z : List ℕ). z ++ u) e ∙ append_assoc t x u
-        ∙ ap (λ (z : List ℕ). t ++ z) (ap (λ (z : List ℕ). x ++ z) e ∙ power-commutes (suc (suc k)) x ∙ ap (λ (z : List ℕ). z ++ x) (sym e))
+        ∙ ap (λ (z : List ℕ). t ++ z) (ap (λ (z : List ℕ). x ++ z) e ∙ power_commutes (suc (suc k)) x ∙ ap (λ (z : List ℕ). z ++ x) (sym e))
         ∙ sym (append_assoc t u x)

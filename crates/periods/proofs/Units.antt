@@ -11,7 +11,7 @@ use lib.ListN.{length, get_or, set, take, drop, length-set, get_or-append}
 use lib.Seq.{take_all, drop-cons, set_at, drop-set-lt}
 use Rattle.periods.specs.Period.{smallest_period, prefix_periods, units_table}
 use Rattle.periods.proofs.InPlace.{PeriodIn, SmallestIn, symbol, period_piece, period_whole, period_longer, period_ends, period_above, period_plus}
-use Rattle.periods.proofs.Claims.{prefix_smallest, prefix_smallest_unique, prefix_periods-length, prefix_periods-at}
+use Rattle.periods.proofs.Claims.{prefix_smallest, prefix_smallest_unique, prefix_periods-length, prefix_periods_at}
 
 -- s the part, t₀ the table at the start of the loop, t the table now
 pub record Upto (s t₀ t : List ℕ) (m p : ℕ) : Type 0 where
@@ -70,7 +70,7 @@ module _ (s t₀ t : List ℕ) (m p : ℕ) (U : Upto s t₀ t m p) (l : m < leng
       let e : suc (m - p - 1) ≡ m - p = omega arith in
       ap (λ (x : List ℕ). get_or x (m - p - 1) 0) U.table
       ∙ get_or-append (prefix_periods s m) (drop m t₀) 0 (m - p - 1) (omega (arith, prefix_periods-length s m))
-      ∙ prefix_periods-at s m (m - p - 1) (omega (arith, U.low))
+      ∙ prefix_periods_at s m (m - p - 1) (omega (arith, U.low))
       ∙ ap (λ (x : ℕ). smallest_period (take x s)) e
 
   next_smallest : p < m → SmallestIn (symbol s) 0 (m - p) (get_or t (m - p - 1) 0)

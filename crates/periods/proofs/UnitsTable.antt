@@ -8,7 +8,7 @@ use lib.ListN.{length, get_or, take, drop, length-drop, length-append, get_or-ap
 use lib.Seq.{take_all, drop_at}
 use Rattle.periods.specs.Period.{part, smallest_period, prefix_periods, units_table}
 use Rattle.periods.proofs.InPlace.{placed_part}
-use Rattle.periods.proofs.Claims.{part-prefix, prefix_periods-length, prefix_periods-at}
+use Rattle.periods.proofs.Claims.{part_prefix, prefix_periods-length, prefix_periods_at}
 
 module _ (s t : List ℕ) where
   pub units_length : length s ≤ length t → length (units_table s t) ≡ length t
@@ -20,7 +20,7 @@ module _ (s t : List ℕ) where
   unfolding units_table
   units_at i h =
       get_or-append (prefix_periods s (length s)) (drop (length s) t) 0 i (omega (arith, prefix_periods-length s (length s)))
-      ∙ prefix_periods-at s (length s) i h
+      ∙ prefix_periods_at s (length s) i h
 
   pub units_last : 0 < length s → get_or (units_table s t) (length s - 1) 0 ≡ smallest_period s
   units_last h = units_at (length s - 1) (omega arith) ∙ ap smallest_period (take_all (suc (length s - 1)) s (omega arith))
@@ -39,4 +39,4 @@ units_none (x ∷ s) t e = absurd (omega arith)
 pub units_of_part : (w t : List ℕ) (a b e : ℕ) → a < b → b ≤ e → e ≤ length w → get_or (units_table (part w a e) t) (b - a - 1) 0 ≡ smallest_period (part w a b)
 units_of_part w t a b e h k l =
     let f : suc (b - a - 1) ≡ b - a = omega arith in
-    units_at (part w a e) t (b - a - 1) (omega (arith, (placed_part w a e l).long)) ∙ rw f (ap smallest_period (part-prefix w a b e k))
+    units_at (part w a e) t (b - a - 1) (omega (arith, (placed_part w a e l).long)) ∙ rw f (ap smallest_period (part_prefix w a b e k))

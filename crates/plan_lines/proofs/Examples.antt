@@ -31,29 +31,29 @@ greatest_long =
 
 -- ---- the line of a plan
 
-pub line-of_none : plan_line 0 [] ≡ empty_plan
+pub line_of_none : plan_line 0 [] ≡ empty_plan
 unfolding line digits_in
-line-of_none = refl
+line_of_none = refl
 
-pub line-of_two : plan_line 8 (2 ∷ 8 ∷ []) ≡ two_blocks
+pub line_of_two : plan_line 8 (2 ∷ 8 ∷ []) ≡ two_blocks
 unfolding line digits_in
-line-of_two = refl
+line_of_two = refl
 
 -- up to 4,096 four digits, and above it six
-pub line-at_limit : plan_line 4096 (2048 ∷ 4096 ∷ []) ≡ greatest_plan
+pub line_at_limit : plan_line 4096 (2048 ∷ 4096 ∷ []) ≡ greatest_plan
 unfolding line digits_in
-line-at_limit = refl
+line_at_limit = refl
 
-pub line-above_limit : plan_line 4097 (4097 ∷ []) ≡ least_long
+pub line_above_limit : plan_line 4097 (4097 ∷ []) ≡ least_long
 unfolding line digits_in
-line-above_limit = refl
+line_above_limit = refl
 
-pub line-of_greatest : plan_line 70000 (2 ∷ 70000 ∷ []) ≡ greatest_long
+pub line_of_greatest : plan_line 70000 (2 ∷ 70000 ∷ []) ≡ greatest_long
 unfolding line digits_in
-line-of_greatest = refl
+line_of_greatest = refl
 
-pub length-of_greatest : length greatest_long ≡ 33
-length-of_greatest = refl
+pub length_of_greatest : length greatest_long ≡ 33
+length_of_greatest = refl
 
 -- the widths, and what goes by them: 15 bytes and 5 for each end, or 19 and 7
 pub of_plan : width_of false ∷ greatest (width_of false) ∷ shortest (width_of false) ∷ step (width_of false) ∷ place_of_count (width_of false) ∷ line_limit ∷ [] ≡ 4 ∷ 9999 ∷ 15 ∷ 5 ∷ 10 ∷ 4096 ∷ []
@@ -64,9 +64,9 @@ of_long = refl
 
 -- ---- what is read off it
 
-pub starts_with-plan : starts_with (prefix_of false) two_blocks ≡ true
+pub starts_with_plan : starts_with (prefix_of false) two_blocks ≡ true
 unfolding starts_with
-starts_with-plan = refl
+starts_with_plan = refl
 
 pub two_is_plan : long? two_blocks ≡ false
 unfolding starts_with
@@ -84,9 +84,9 @@ pub greatest_is_line : line? true greatest_long ≡ true
 unfolding line? starts_with ends?
 greatest_is_line = refl
 
-pub numbers_of-two : number_at 4 two_blocks place_of_length ∷ number_at 4 two_blocks 10 ∷ ends_in 4 two_blocks 2 ≡ 8 ∷ 2 ∷ 2 ∷ 8 ∷ []
+pub numbers_of_two : number_at 4 two_blocks place_of_length ∷ number_at 4 two_blocks 10 ∷ ends_in 4 two_blocks 2 ≡ 8 ∷ 2 ∷ 2 ∷ 8 ∷ []
 unfolding ends_in
-numbers_of-two = refl
+numbers_of_two = refl
 
 pub numbers_of-greatest : number_at 6 greatest_long place_of_length ∷ number_at 6 greatest_long 12 ∷ ends_in 6 greatest_long 2 ≡ 70000 ∷ 2 ∷ 2 ∷ 70000 ∷ []
 unfolding ends_in

@@ -1,5 +1,5 @@
--- The test of a line of a kind says exactly when bytes are one: what is read off the places of a line of n and ends is n and ends (line-is_line, line-numbers),
--- and bytes that pass the test are the line of what is read off them (line_read). So a line has one kind (one_kind), one n and one list of ends (line-unique).
+-- The test of a line of a kind says exactly when bytes are one: what is read off the places of a line of n and ends is n and ends (line_is_line, line_numbers),
+-- and bytes that pass the test are the line of what is read off them (line_read). So a line has one kind (one_kind), one n and one list of ends (line_unique).
 -- By cutting the bytes at the places of the numbers. And the digits of a number, from the thousands down, read as its quotients by 1,000, 100, 10 and 1
 -- (four_quotients). Assumes nothing.
 use mathlib.Core.Path.{◌≡◌, refl, sym, ap, ap₂, ◌∙◌, subst}
@@ -16,9 +16,9 @@ use lib.Seq.{take-suc, take-length, drop-cons, take_at, drop_at, drop-drop, get_
 use Rattle.laws.proofs.Tests.{T_true, and_intro, and_left, and_right}
 use Rattle.decimals.specs.Decimal.{comma, line_end, digits, made, digits?, value, field}
 use Rattle.decimals.specs.Read.{number_in}
-use Rattle.decimals.proofs.Claims.{digits-length, digits-are_digits, digits_value, value-digits, value-bound, made_digits}
+use Rattle.decimals.proofs.Claims.{digits-length, digits_are_digits, digits_value, value-digits, value_bound, made_digits}
 use Rattle.decimals.proofs.Fields.{at_most_at}
-use Rattle.decimals.proofs.Loops.{field-length, power-positive}
+use Rattle.decimals.proofs.Loops.{field-length, power_positive}
 use Rattle.plan_lines.specs.Line.{prefix_of, width_of, line_limit, greatest, fields, line, Small, IsLineOf, IsLine, place_of_length, place_of_count, step, bytes_for, place_of_end, number_at, field?, ends?, starts_with, long?, needless?, line?, ends_in}
 use Rattle.plan_lines.proofs.Loops.{fields_append, fields_length, fields_take, prefix_length, field_is, field-digits, field-comma, ends_length}
 
@@ -92,9 +92,9 @@ module _ (long : Bool) (s : List ℕ) where
   abbrev after_start : Bool
   after_start = digits? (field s place_of_length d) && after_number
 
-  pub line-parts : T (line? long s) → Parts long d s
+  pub line_parts : T (line? long s) → Parts long d s
   unfolding line?
-  line-parts t =
+  line_parts t =
       let a : T after_start = and_right (starts_with (prefix_of long) s) after_start t in
       let b : T after_number = and_right (digits? (field s place_of_length d)) after_number a in
       let c : T after_needed = and_right needed? after_needed b in
@@ -138,10 +138,10 @@ module _ (d : ℕ) where
     pub shown_field : T (field? d s at)
     shown_field =
         and_intro (eqb (get_or s (at - 1) 0) comma) (digits? (field s at d)) (subst T (sym (eq-eqb (get_or s (at - 1) 0) comma shown_comma)) tt)
-        (subst (λ (t : List ℕ). T (digits? t)) (sym shown_digits) (digits-are_digits d x))
+        (subst (λ (t : List ℕ). T (digits? t)) (sym shown_digits) (digits_are_digits d x))
 
     pub shown_number : x ≤ greatest d → number_at d s at ≡ x
-    shown_number h = ap value shown_digits ∙ digits_value d x (omega (arith, power-positive d))
+    shown_number h = ap value shown_digits ∙ digits_value d x (omega (arith, power_positive d))
 
   small_snoc : (xs : List ℕ) (x : ℕ) → Small d xs → x ≤ greatest d → Small d (xs ++ x ∷ [])
   small_snoc [] x S h = (h, tt)
@@ -156,7 +156,7 @@ module _ (d : ℕ) where
         (drop-drop d at s)
 
     number_small : T (digits? (field s at d)) → number_at d s at ≤ greatest d
-    number_small t = omega (arith, subst (λ (k : ℕ). number_at d s at < 10 ^ k) (field-length s at d inside) (value-bound (field s at d) t))
+    number_small t = omega (arith, subst (λ (k : ℕ). number_at d s at < 10 ^ k) (field-length s at d inside) (value_bound (field s at d) t))
 
     field_cut : 1 ≤ at → T (field? d s at) → drop (at - 1) s ≡ comma ∷ (digits d (number_at d s at) ++ drop (at + d) s)
     field_cut h t =
@@ -188,10 +188,10 @@ module _ (d : ℕ) where
 
 -- ---- the bytes that a line begins with
 
-line-starts : (long : Bool) (n : ℕ) (ends : List ℕ) → T (starts_with (prefix_of long) (line long n ends))
+line_starts : (long : Bool) (n : ℕ) (ends : List ℕ) → T (starts_with (prefix_of long) (line long n ends))
 unfolding line starts_with
-line-starts false n ends = tt
-line-starts true n ends = tt
+line_starts false n ends = tt
+line_starts true n ends = tt
 
 prefix_comma : (long : Bool) (l : List ℕ) → get_or (prefix_of long ++ l) (place_of_length - 1) 0 ≡ comma
 prefix_comma false l = refl
@@ -217,9 +217,9 @@ module _ (long : Bool) where
   head_length : (n count : ℕ) → length (head n count) ≡ place_of_end e 0 - 1
   head_length n count = omega (arith, length-append (prefix_of long) (digits e n ++ comma ∷ digits e count), prefix_length long, length-append (digits e n) (comma ∷ digits e count), digits-length e n, digits-length e count)
 
-  line-cut : (n : ℕ) (ends : List ℕ) → line long n ends ≡ head n (length ends) ++ (fields e ends ++ line_end ∷ [])
+  line_cut : (n : ℕ) (ends : List ℕ) → line long n ends ≡ head n (length ends) ++ (fields e ends ++ line_end ∷ [])
   unfolding line
-  line-cut n ends =
+  line_cut n ends =
       let c : List ℕ = digits e (length ends) in
       ap (λ (t : List ℕ). prefix_of long ++ (digits e n ++ comma ∷ t)) (append_assoc c (fields e ends) (line_end ∷ []))
       ∙ ap (λ (t : List ℕ). prefix_of long ++ t) (sym (append_assoc (digits e n) (comma ∷ c) (fields e ends ++ line_end ∷ [])))
@@ -228,7 +228,7 @@ module _ (long : Bool) where
   -- CLAIM: with numbers of four digits a line has 15 bytes and 5 for each end, with six digits 19 and 7
   pub length-line : (n : ℕ) (ends : List ℕ) → length (line long n ends) ≡ bytes_for e (length ends)
   length-line n ends =
-      ap length (line-cut n ends)
+      ap length (line_cut n ends)
       ∙ omega (arith, length-append (head n (length ends)) (fields e ends ++ line_end ∷ []), length-append (fields e ends) (line_end ∷ []), head_length n (length ends), fields_length e ends)
 
   module _ (s : List ℕ) (n : ℕ) (ends : List ℕ) (L : IsLineOf long s n ends) where
@@ -249,7 +249,7 @@ module _ (long : Bool) where
         let E : List ℕ = line_end ∷ [] in
         let cut : fields e ends ≡ F ++ comma ∷ (D ++ G) = ap (fields e) (split_at ends k 0 h) ∙ fields_append e (take k ends) (get_or ends k 0 ∷ drop (suc k) ends) in
         L.is
-        ∙ line-cut n ends
+        ∙ line_cut n ends
         ∙ ap (λ (t : List ℕ). head n (length ends) ++ (t ++ E)) cut
         ∙ ap (λ (t : List ℕ). head n (length ends) ++ t) (append_assoc F (comma ∷ (D ++ G)) E ∙ ap (λ (t : List ℕ). F ++ comma ∷ t) (append_assoc D G E))
         ∙ sym (append_assoc (head n (length ends)) F (comma ∷ (D ++ (G ++ E))))
@@ -286,40 +286,40 @@ module _ (long : Bool) where
     count_shown : number_at e s (place_of_count e) ≡ length ends
     count_shown = shown_number e s (prefix_of long ++ digits e n) (length ends) (fields e ends ++ line_end ∷ []) (place_of_count e) count_cut count_long L.small_count
 
-    line-long : length s ≡ bytes_for e (length ends)
-    line-long = ap length L.is ∙ length-line n ends
+    line_long : length s ≡ bytes_for e (length ends)
+    line_long = ap length L.is ∙ length-line n ends
 
     last_shown : get_or s (length s - 1) 0 ≡ line_end
     last_shown =
-        ap (λ (t : List ℕ). get_or t (length s - 1) 0) (L.is ∙ line-cut n ends ∙ sym (append_assoc (head n (length ends)) (fields e ends) (line_end ∷ [])))
+        ap (λ (t : List ℕ). get_or t (length s - 1) 0) (L.is ∙ line_cut n ends ∙ sym (append_assoc (head n (length ends)) (fields e ends) (line_end ∷ [])))
         ∙ get_or_at (head n (length ends) ++ fields e ends) line_end [] 0 (length s - 1)
-        (omega (arith, length-append (head n (length ends)) (fields e ends), head_length n (length ends), fields_length e ends, line-long))
+        (omega (arith, length-append (head n (length ends)) (fields e ends), head_length n (length ends), fields_length e ends, line_long))
 
     -- CLAIM: what is read off the places of a line
-    pub line-numbers : (number_at e s place_of_length ≡ n) × (number_at e s (place_of_count e) ≡ length ends) × (ends_in e s (number_at e s (place_of_count e)) ≡ ends)
-    line-numbers = (
-      ap value number_shown ∙ digits_value e n (omega (arith, L.small_length, power-positive e)),
+    pub line_numbers : (number_at e s place_of_length ≡ n) × (number_at e s (place_of_count e) ≡ length ends) × (ends_in e s (number_at e s (place_of_count e)) ≡ ends)
+    line_numbers = (
+      ap value number_shown ∙ digits_value e n (omega (arith, L.small_length, power_positive e)),
       count_shown,
       ap (ends_in e s) count_shown ∙ ends_read (length ends) (omega arith) ∙ take-length ends,
     )
 
     -- CLAIM: a line passes the test
-    pub line-is_line : T (line? long s)
-    line-is_line = parts_line long s record {
-      starts = subst (λ (t : List ℕ). T (starts_with (prefix_of long) t)) (sym L.is) (line-starts long n ends);
-      number = subst (λ (t : List ℕ). T (digits? t)) (sym number_shown) (digits-are_digits e n);
-      needed = λ y. subst (λ (m : ℕ). line_limit < m) (sym line-numbers.0) (L.needed y);
+    pub line_is_line : T (line? long s)
+    line_is_line = parts_line long s record {
+      starts = subst (λ (t : List ℕ). T (starts_with (prefix_of long) t)) (sym L.is) (line_starts long n ends);
+      number = subst (λ (t : List ℕ). T (digits? t)) (sym number_shown) (digits_are_digits e n);
+      needed = λ y. subst (λ (m : ℕ). line_limit < m) (sym line_numbers.0) (L.needed y);
       count = shown_field e s (prefix_of long ++ digits e n) (length ends) (fields e ends ++ line_end ∷ []) (place_of_count e) count_cut count_long;
-      sized = line-long ∙ ap (bytes_for e) (sym count_shown);
+      sized = line_long ∙ ap (bytes_for e) (sym count_shown);
       ends = subst (λ (k : ℕ). T (ends? e s k)) (sym count_shown) (ends_stand (length ends) (omega arith));
       last = last_shown;
     }
 
   -- with one n and one list of ends
-  line-unique_of : (s : List ℕ) (n : ℕ) (ends : List ℕ) (m : ℕ) (fs : List ℕ) → IsLineOf long s n ends → IsLineOf long s m fs → (n ≡ m) × (ends ≡ fs)
-  line-unique_of s n ends m fs L M =
-      let a = line-numbers s n ends L in
-      let b = line-numbers s m fs M in
+  line_unique_of : (s : List ℕ) (n : ℕ) (ends : List ℕ) (m : ℕ) (fs : List ℕ) → IsLineOf long s n ends → IsLineOf long s m fs → (n ≡ m) × (ends ≡ fs)
+  line_unique_of s n ends m fs L M =
+      let a = line_numbers s n ends L in
+      let b = line_numbers s m fs M in
       (sym a.0 ∙ b.0, sym a.2 ∙ b.2)
 
   module _ (s : List ℕ) where
@@ -327,7 +327,7 @@ module _ (long : Bool) where
     pub line_read : T (line? long s) → IsLineOf long s (number_at e s place_of_length) (ends_in e s (number_at e s (place_of_count e)))
     unfolding line
     line_read t =
-        let P : Parts long e s = line-parts long s t in
+        let P : Parts long e s = line_parts long s t in
         let n : ℕ = number_at e s place_of_length in
         let k : ℕ = number_at e s (place_of_count e) in
         let count : length (ends_in e s k) ≡ k = ends_length e s k in
@@ -372,11 +372,11 @@ kind_is false s n ends L = ap long? L.is
 kind_is true s n ends L = ap long? L.is
 
 -- CLAIM: a line has one n and one list of ends
-pub line-unique : (s : List ℕ) (n : ℕ) (ends : List ℕ) (m : ℕ) (fs : List ℕ) → IsLine s n ends → IsLine s m fs → (n ≡ m) × (ends ≡ fs)
-line-unique s n ends m fs (false, L) (false, M) = line-unique_of false s n ends m fs L M
-line-unique s n ends m fs (false, L) (true, M) = absurd (one_kind s n ends m fs L M)
-line-unique s n ends m fs (true, L) (false, M) = absurd (one_kind s m fs n ends M L)
-line-unique s n ends m fs (true, L) (true, M) = line-unique_of true s n ends m fs L M
+pub line_unique : (s : List ℕ) (n : ℕ) (ends : List ℕ) (m : ℕ) (fs : List ℕ) → IsLine s n ends → IsLine s m fs → (n ≡ m) × (ends ≡ fs)
+line_unique s n ends m fs (false, L) (false, M) = line_unique_of false s n ends m fs L M
+line_unique s n ends m fs (false, L) (true, M) = absurd (one_kind s n ends m fs L M)
+line_unique s n ends m fs (true, L) (false, M) = absurd (one_kind s m fs n ends M L)
+line_unique s n ends m fs (true, L) (true, M) = line_unique_of true s n ends m fs L M
 
 -- ---- the test, one part after another
 
@@ -391,14 +391,14 @@ module _ (long : Bool) (s : List ℕ) (d : ℕ) (w : d ≡ width_of long) where
   not_line h = go (line? long s) refl
     where
       go : (t : Bool) → line? long s ≡ t → false ≡ line? long s
-      go true f = absurd (h (subst (λ (j : ℕ). Parts long j s) (sym w) (line-parts long s (subst T (sym f) tt))))
+      go true f = absurd (h (subst (λ (j : ℕ). Parts long j s) (sym w) (line_parts long s (subst T (sym f) tt))))
       go false f = sym f
 
   -- where the other parts hold, the last byte decides
-  pub line-by_last : T (starts_with (prefix_of long) s) → T (field? d s place_of_length) → needless? long (number_at d s place_of_length) ≡ false → T (field? d s (place_of_count d))
+  pub line_by_last : T (starts_with (prefix_of long) s) → T (field? d s place_of_length) → needless? long (number_at d s place_of_length) ≡ false → T (field? d s (place_of_count d))
       → length s ≡ bytes_for d (number_at d s (place_of_count d)) → T (ends? d s (number_at d s (place_of_count d)))
       → eqb (get_or s (length s - 1) 0) line_end ≡ line? long s
-  line-by_last a b n c l f = go (ℕ_discrete (get_or s (length s - 1) 0) line_end)
+  line_by_last a b n c l f = go (ℕ_discrete (get_or s (length s - 1) 0) line_end)
     where
       go : Dec (get_or s (length s - 1) 0 ≡ line_end) → eqb (get_or s (length s - 1) 0) line_end ≡ line? long s
       go (yes x) =

@@ -16,7 +16,7 @@ use Rattle.laws.proofs.Tests.{and_left, and_right}
 use Rattle.laws.proofs.Stores.{sets-append}
 use Rattle.decimals.specs.Decimal.{comma, line_end, digits, digits?, field}
 use Rattle.decimals.proofs.Claims.{digits-length}
-use Rattle.decimals.proofs.Loops.{power-positive}
+use Rattle.decimals.proofs.Loops.{power_positive}
 use Rattle.plan_lines.specs.Line.{prefix_of, width_of, widest, greatest, fields, line, starts_with, step, place_of_length, place_of_count, place_of_end, bytes_for, number_at, field?, ends?, ends_in}
 
 -- ---- a test that another function made
@@ -79,8 +79,8 @@ module _ (d : ℕ) where
     pub field_is : (t : Bool) → get_or s (at - 1) 0 ≡ comma → digits? (field s at d) ≡ t → t ≡ field? d s at
     field_is t e q = sym (simp (eq-eqb (get_or s (at - 1) 0) comma e) q)
 
-    pub field-other : (get_or s (at - 1) 0 ≡ comma → ⊥) → false ≡ field? d s at
-    field-other n = sym (simp (ne_eqb (get_or s (at - 1) 0) comma n))
+    pub field_other : (get_or s (at - 1) 0 ≡ comma → ⊥) → false ≡ field? d s at
+    field_other n = sym (simp (ne_eqb (get_or s (at - 1) 0) comma n))
 
     pub field-digits : T (field? d s at) → T (digits? (field s at d))
     field-digits h = and_right (eqb (get_or s (at - 1) 0) comma) (digits? (field s at d)) h
@@ -152,15 +152,15 @@ pub width_bound : (long : Bool) → width_of long ≤ widest
 width_bound false = omega arith
 width_bound true = omega arith
 
-pub step-bound : (d k : ℕ) → d ≤ widest → step d * k ≤ step widest * k
-step-bound d k h = mul-le-mul_right k (omega arith)
+pub step_bound : (d k : ℕ) → d ≤ widest → step d * k ≤ step widest * k
+step_bound d k h = mul-le-mul_right k (omega arith)
 
 -- numbers of at most six digits
-pub power-bound : (d : ℕ) → d ≤ widest → 10 ^ d ≤ 10 ^ widest
-power-bound d h = pow-le-pow_right {n = 10} (omega arith) h
+pub power_bound : (d : ℕ) → d ≤ widest → 10 ^ d ≤ 10 ^ widest
+power_bound d h = pow-le-pow_right {n = 10} (omega arith) h
 
 pub small_number : (d x : ℕ) → d ≤ widest → x ≤ greatest d → (x < 10 ^ d) × (x < 10 ^ widest)
-small_number d x h l = (omega (arith, power-positive d), omega (arith, power-positive d, power-bound d h))
+small_number d x h l = (omega (arith, power_positive d), omega (arith, power_positive d, power_bound d h))
 
 -- the stores of a whole line
 pub write_line_is : (long : Bool) (l : List ℕ) (n : ℕ) (ends : List ℕ) (d : ℕ) → d ≡ width_of long

@@ -17,7 +17,7 @@ use Rattle.answers.specs.declared.Refusal.TheVariants.{TooFewPlaces, NotPlan}
 use Rattle.answers.specs.declared.Counted.{Counted}
 use Rattle.answers.specs.declared.Counted.TheVariants.{Count, Refused as Counted-Refused}
 use Rattle.answers.specs.Outcome.{Outcome, accepted, refused, refusal, counted_view, limit, unless_refused, table_unless}
-use Rattle.answers.proofs.Claims.{refused_accepted, refusal-injective}
+use Rattle.answers.proofs.Claims.{refused_accepted, refusal_injective}
 use Rattle.factors.specs.Factorization.{Chain}
 use Rattle.factors.specs.Verdict.{verdict, VerdictMeaning, bad_end, no_block, unfinished, fine}
 use Rattle.factors.proofs.VerdictClaims.{verdict_means, accepted_iff, accepted_length}
@@ -26,7 +26,7 @@ use Rattle.plans.specs.declared.PlanAnswer.TheVariants.{Plan, Refused}
 use Rattle.plan_lines.specs.Line.{width_of, line_limit, needs_long, greatest, plan_line, Small, IsLineOf, IsLine, long?, line?, number_at, place_of_length, place_of_count, ends_in}
 use Rattle.plans.specs.Calls.{any_piece, AnyPiece, plausible, write_outcome, write_table, limit_of, read_outcome_as, read_table_as, read_outcome, read_table, plan_view, WriteMeaning, ReadMeaning}
 use Rattle.plans.proofs.Judged.{judge_too_long, judge_verdict}
-use Rattle.plan_lines.proofs.LineClaims.{line-numbers, line-is_line, line_read, kind_is}
+use Rattle.plan_lines.proofs.LineClaims.{line_numbers, line_is_line, line_read, kind_is}
 
 -- ---- n and ends that are not refused
 
@@ -51,38 +51,38 @@ kind_fits n h = go (dec_lt line_limit n)
     go (no l) = subst (λ (b : Bool). n ≤ greatest (width_of b)) (sym (le-ltb line_limit n (omega arith))) (omega arith)
 
 module _ (most n : ℕ) (ends : List ℕ) where
-  pub plausible-low : (v : List ℕ) → plausible most n ends ≡ accepted v → n ≤ most
-  plausible-low v e = go (dec_lt most n)
+  pub plausible_low : (v : List ℕ) → plausible most n ends ≡ accepted v → n ≤ most
+  plausible_low v e = go (dec_lt most n)
     where
       go : Dec (most < n) → n ≤ most
       go (yes h) = absurd (refused_accepted (plausible most n ends) 1 0 v (judge_too_long most n ends h) e)
       go (no h) = omega arith
 
   plausible-verdict : (v : List ℕ) → plausible most n ends ≡ accepted v → verdict any_piece n ends ≡ accepted v
-  plausible-verdict v e = sym (judge_verdict most n ends (plausible-low v e)) ∙ e
+  plausible-verdict v e = sym (judge_verdict most n ends (plausible_low v e)) ∙ e
 
   -- they are answered with the number of ends
-  pub plausible-count : (v : List ℕ) → plausible most n ends ≡ accepted v → v ≡ length ends ∷ []
-  plausible-count v e = accepted_length (λ i j. true) (λ i j. Unit {0}) (λ i j t. tt) (λ i j t. tt) n ends v (plausible-verdict v e)
+  pub plausible_count : (v : List ℕ) → plausible most n ends ≡ accepted v → v ≡ length ends ∷ []
+  plausible_count v e = accepted_length (λ i j. true) (λ i j. Unit {0}) (λ i j t. tt) (λ i j t. tt) n ends v (plausible-verdict v e)
 
-  plausible-chain : (v : List ℕ) → plausible most n ends ≡ accepted v → Chain (Up n) 0 ends n
-  plausible-chain v e =
-      (accepted_iff (λ i j. true) (λ i j. Unit {0}) (λ i j t. tt) (λ i j t. tt) n ends).0 (plausible-verdict v e ∙ ap accepted (plausible-count v e))
+  plausible_chain : (v : List ℕ) → plausible most n ends ≡ accepted v → Chain (Up n) 0 ends n
+  plausible_chain v e =
+      (accepted_iff (λ i j. true) (λ i j. Unit {0}) (λ i j t. tt) (λ i j t. tt) n ends).0 (plausible-verdict v e ∙ ap accepted (plausible_count v e))
 
   -- there are at most n ends
   pub plausible-length : (v : List ℕ) → plausible most n ends ≡ accepted v → length ends ≤ n
-  plausible-length v e = omega (arith, chain_length n ends 0 (plausible-chain v e))
+  plausible-length v e = omega (arith, chain_length n ends 0 (plausible_chain v e))
 
   -- what the verdict on them means
-  pub plausible-means : n ≤ most → VerdictMeaning AnyPiece n ends (plausible most n ends)
-  plausible-means h =
+  pub plausible_means : n ≤ most → VerdictMeaning AnyPiece n ends (plausible most n ends)
+  plausible_means h =
       subst (VerdictMeaning AnyPiece n ends) (sym (judge_verdict most n ends h)) (verdict_means any_piece AnyPiece (λ k i j x. tt) (λ k i j x. tt) n ends)
 
   -- what a judge that counts the ends says
   pub judge_counts : (r : Counted) (x : ℕ) → counted_view r ≡ plausible most n ends → r ≡ Count x → (plausible most n ends ≡ accepted (x ∷ [])) × (x ≡ length ends)
   judge_counts r x e f =
       let p : plausible most n ends ≡ accepted (x ∷ []) = sym e ∙ ap counted_view f in
-      let c : x ∷ [] ≡ length ends ∷ [] = plausible-count (x ∷ []) p in
+      let c : x ∷ [] ≡ length ends ∷ [] = plausible_count (x ∷ []) p in
       (p, cc)
 
   pub judge_refuses : (r : Counted) (f : Refusal) → counted_view r ≡ plausible most n ends → r ≡ Counted-Refused f → plausible most n ends ≡ refusal f
@@ -94,11 +94,11 @@ module _ (n : ℕ) (ends : List ℕ) where
   -- so their line has numbers with the digits of its kind only
   pub plausible-line : (v : List ℕ) → plausible limit n ends ≡ accepted v → IsLineOf (needs_long n) (plan_line n ends) n ends
   plausible-line v e =
-      let fits : n ≤ greatest (width_of (needs_long n)) = kind_fits n (plausible-low limit n ends v e) in
+      let fits : n ≤ greatest (width_of (needs_long n)) = kind_fits n (plausible_low limit n ends v e) in
       record {
         small_length = fits;
         small_count = omega (arith, fits, plausible-length limit n ends v e);
-        small_ends = chain_small (width_of (needs_long n)) n ends 0 fits (plausible-chain limit n ends v e);
+        small_ends = chain_small (width_of (needs_long n)) n ends 0 fits (plausible_chain limit n ends v e);
         needed = λ y. ltb→lt line_limit n (subst T (sym y) tt);
         is = refl;
       }
@@ -137,14 +137,14 @@ module _ (n : ℕ) (ends : List ℕ) where
         by h (refused x i) e M d = let w = write_refused x i e in WriteMeaning.implausible h x i M (sym w.0) (sym w.1)
         by h (accepted v) e M (yes d) =
             let w = write_too_few v e d in
-            WriteMeaning.too_few h (subst (λ (x : List ℕ). VerdictMeaning AnyPiece n ends (accepted x)) (plausible-count limit n ends v e) M) d (sym w.0) (sym w.1)
+            WriteMeaning.too_few h (subst (λ (x : List ℕ). VerdictMeaning AnyPiece n ends (accepted x)) (plausible_count limit n ends v e) M) d (sym w.0) (sym w.1)
         by h (accepted v) e M (no d) =
             let w = write_written v e (omega arith) in
-            WriteMeaning.written h (subst (λ (x : List ℕ). VerdictMeaning AnyPiece n ends (accepted x)) (plausible-count limit n ends v e) M) (plausible-line v e) (omega arith) (sym w.0) (sym w.1)
+            WriteMeaning.written h (subst (λ (x : List ℕ). VerdictMeaning AnyPiece n ends (accepted x)) (plausible_count limit n ends v e) M) (plausible-line v e) (omega arith) (sym w.0) (sym w.1)
 
         go : Dec (limit < n) → WriteMeaning n ends t (write_outcome n ends (length t)) (write_table n ends t)
         go (yes h) = let w = write_refused 1 0 (judge_too_long limit n ends h) in WriteMeaning.too_long h (sym w.0) (sym w.1)
-        go (no h) = by (omega arith) (plausible limit n ends) refl (plausible-means limit n ends (omega arith)) (dec_lt (length t) (length (plan_line n ends)))
+        go (no h) = by (omega arith) (plausible limit n ends) refl (plausible_means limit n ends (omega arith)) (dec_lt (length t) (length (plan_line n ends)))
 
     -- the answer and the bytes with their meaning
     pub write_answered : (o : Outcome) (u : List ℕ) → o ≡ write_outcome n ends (length t) → u ≡ write_table n ends t
@@ -196,20 +196,20 @@ module _ (long : Bool) (s t : List ℕ) where
       by L l h (refused x i) e M d = let w = read_refused l x i e in ReadMeaning.implausible long number ends L h x i M (sym w.0) (sym w.1)
       by L l h (accepted v) e M (yes d) =
           let w = read_too_few l v e d in
-          ReadMeaning.too_few long number ends L h (subst (λ (x : List ℕ). VerdictMeaning AnyPiece number ends (accepted x)) (plausible-count (limit_of long) number ends v e) M) d (sym w.0) (sym w.1)
+          ReadMeaning.too_few long number ends L h (subst (λ (x : List ℕ). VerdictMeaning AnyPiece number ends (accepted x)) (plausible_count (limit_of long) number ends v e) M) d (sym w.0) (sym w.1)
       by L l h (accepted v) e M (no d) =
           let w = read_plan l v e (omega arith) in
-          ReadMeaning.plan long number ends L h (subst (λ (x : List ℕ). VerdictMeaning AnyPiece number ends (accepted x)) (plausible-count (limit_of long) number ends v e) M) (omega arith) (sym w.0) (sym w.1)
+          ReadMeaning.plan long number ends L h (subst (λ (x : List ℕ). VerdictMeaning AnyPiece number ends (accepted x)) (plausible_count (limit_of long) number ends v e) M) (omega arith) (sym w.0) (sym w.1)
 
       line : IsLineOf long s number ends → T (line? long s) → Dec (limit_of long < number) → ReadMeaning s t (read_outcome_as long s (length t)) (read_table_as long s t)
       line L l (yes h) = let w = read_refused l 1 0 (judge_too_long (limit_of long) number ends h) in ReadMeaning.too_long long number ends L h (sym w.0) (sym w.1)
       line L l (no h) =
           by L l (omega arith) (plausible (limit_of long) number ends) refl
-          (plausible-means (limit_of long) number ends (omega arith))
+          (plausible_means (limit_of long) number ends (omega arith))
           (dec_lt (length t) (length ends))
 
       other : (n : ℕ) (es : List ℕ) → IsLine s n es → line? long s ≡ false → ⊥
-      other n es (b, L) e = subst T (ap (λ (x : Bool). line? x s) (sym (kind_is b s n es L) ∙ k) ∙ e) (line-is_line b s n es L)
+      other n es (b, L) e = subst T (ap (λ (x : Bool). line? x s) (sym (kind_is b s n es L) ∙ k) ∙ e) (line_is_line b s n es L)
 
       go : (b : Bool) → line? long s ≡ b → ReadMeaning s t (read_outcome_as long s (length t)) (read_table_as long s t)
       go false e = let w = read_no_line e in ReadMeaning.no_line (λ n es L. other n es L e) (sym w.0) (sym w.1)
@@ -238,10 +238,10 @@ pub read_as_writing : (long : Bool) (s : List ℕ) (n : ℕ) (ends : List ℕ) (
 unfolding read_outcome_as
 read_as_writing long s n ends places L =
     let d : ℕ = width_of long in
-    let a = line-numbers long s n ends L in
+    let a = line_numbers long s n ends L in
     let judged : ℕ → List ℕ → Outcome = λ x l. unless_refused (plausible (limit_of long) x l) (cond (ltb places (length l)) (refusal TooFewPlaces) (accepted (x ∷ length l ∷ []))) in
     ap (λ (b : Bool). read_outcome_as b s places) (kind_is long s n ends L)
-    ∙ ap (λ (b : Bool). cond b (judged (number_at d s place_of_length) (ends_in d s (number_at d s (place_of_count d)))) (refusal NotPlan)) (T_true (line? long s) (line-is_line long s n ends L))
+    ∙ ap (λ (b : Bool). cond b (judged (number_at d s place_of_length) (ends_in d s (number_at d s (place_of_count d)))) (refusal NotPlan)) (T_true (line? long s) (line_is_line long s n ends L))
     ∙ ap₂ judged a.0 a.2
 
 -- the number that an outcome returns, 0 where it is no refusal
@@ -255,12 +255,12 @@ verdict_number n ends o (no_block k a b F r x e) = omega (arith, ap number_of e)
 verdict_number n ends o (unfinished F z e) = omega (arith, ap number_of e)
 verdict_number n ends o (fine F z e) = omega (arith, ap number_of e)
 
-plausible-number : (most n : ℕ) (ends : List ℕ) → number_of (plausible most n ends) ≤ 5
-plausible-number most n ends = go (dec_lt most n)
+plausible_number : (most n : ℕ) (ends : List ℕ) → number_of (plausible most n ends) ≤ 5
+plausible_number most n ends = go (dec_lt most n)
   where
     go : Dec (most < n) → number_of (plausible most n ends) ≤ 5
     go (yes h) = omega (arith, ap number_of (judge_too_long most n ends h))
-    go (no h) = verdict_number n ends (plausible most n ends) (plausible-means most n ends (omega arith))
+    go (no h) = verdict_number n ends (plausible most n ends) (plausible_means most n ends (omega arith))
 
 -- what comes after 11 has another number
 then_number : (p : Outcome) (t : Bool) (v : List ℕ) → number_of p ≤ 5 → number_of (unless_refused p (cond t (refusal TooFewPlaces) (accepted v))) ≤ 7
@@ -278,7 +278,7 @@ read_eleven s places = (other, λ h. eleven h (line? (long? s) s) refl)
         omega (
           arith,
           ap number_of (sym (read_as_writing long s n ends places L) ∙ e),
-          then_number (plausible (limit_of long) n ends) (ltb places (length ends)) (n ∷ length ends ∷ []) (plausible-number (limit_of long) n ends),
+          then_number (plausible (limit_of long) n ends) (ltb places (length ends)) (n ∷ length ends ∷ []) (plausible_number (limit_of long) n ends),
         )
 
     eleven : ((n : ℕ) (ends : List ℕ) → IsLine s n ends → ⊥) → (b : Bool) → line? (long? s) s ≡ b → read_outcome s places ≡ refused 11 0
@@ -319,22 +319,22 @@ round_trip n ends places v t e h = go (write_plausible n ends places v e)
         let long : Bool = needs_long n in
         let s : List ℕ = plan_line n ends in
         let L : IsLineOf long s n ends = plausible-line n ends w p in
-        let a = line-numbers long s n ends L in
-        let low : n ≤ limit = plausible-low limit n ends w p in
+        let a = line_numbers long s n ends L in
+        let low : n ≤ limit = plausible_low limit n ends w p in
         let q : plausible (limit_of long) (number_at (width_of long) s place_of_length) (ends_in (width_of long) s (number_at (width_of long) s (place_of_count (width_of long)))) ≡ accepted w =
         ap₂ (plausible (limit_of long)) a.0 a.2 ∙ judge_verdict (limit_of long) n ends (kind_limit n low) ∙ sym (judge_verdict limit n ends low) ∙ p in
-        let r = read_plan long s t (line-is_line long s n ends L) w q (omega (arith, ap length a.2)) in
+        let r = read_plan long s t (line_is_line long s n ends L) w q (omega (arith, ap length a.2)) in
         let k : long? s ≡ long = kind_is long s n ends L in (
           ap (λ (b : Bool). read_outcome_as b s (length t)) k ∙ sym r.0 ∙ ap₂ (λ (x : ℕ) (l : List ℕ). accepted (x ∷ length l ∷ [])) a.0 a.2,
           ap (λ (b : Bool). read_table_as b s t) k ∙ sym r.1 ∙ ap (λ (l : List ℕ). l ++ drop (length l) t) a.2,
         )
 
 -- CLAIM: an answer of the reader is determined by its numbers
-pub plan_view-injective : (x y : PlanAnswer) → plan_view x ≡ plan_view y → x ≡ y
-plan_view-injective (Plan n k) (Plan m j) e =
+pub plan_view_injective : (x y : PlanAnswer) → plan_view x ≡ plan_view y → x ≡ y
+plan_view_injective (Plan n k) (Plan m j) e =
     let a : n ≡ m = cc in
     let b : k ≡ j = cc in
     ap₂ Plan a b
-plan_view-injective (Plan n k) (Refused s) e = absurd (refused_accepted (refusal s) _ _ (n ∷ k ∷ []) refl (sym e))
-plan_view-injective (Refused r) (Plan m j) e = absurd (refused_accepted (refusal r) _ _ (m ∷ j ∷ []) refl e)
-plan_view-injective (Refused r) (Refused s) e = ap Refused (refusal-injective r s e)
+plan_view_injective (Plan n k) (Refused s) e = absurd (refused_accepted (refusal s) _ _ (n ∷ k ∷ []) refl (sym e))
+plan_view_injective (Refused r) (Plan m j) e = absurd (refused_accepted (refusal r) _ _ (m ∷ j ∷ []) refl e)
+plan_view_injective (Refused r) (Refused s) e = ap Refused (refusal_injective r s e)

@@ -22,6 +22,6 @@ judge_verdict most n ends h = simp (le-ltb most n h)
 pub judge_first : (most n : ℕ) (ends : List ℕ) → n ≤ most → judged_from any_piece n ends 0 0 ≡ plausible most n ends
 judge_first most n ends h = judged_first any_piece n ends ∙ sym (judge_verdict most n ends h)
 
-pub limit-bound : (long : Bool) → limit_of long ≤ limit
-limit-bound false = omega arith
-limit-bound true = omega arith
+pub limit_bound : (long : Bool) → limit_of long ≤ limit
+limit_bound false = omega arith
+limit_bound true = omega arith

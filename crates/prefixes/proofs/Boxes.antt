@@ -103,22 +103,22 @@ module _ (g : ℕ → ℕ) (len mid from : ℕ) (near : from ≤ mid + 1) where
 -- ---- the two turns
 
 module _ (g : ℕ → ℕ) (len mid : ℕ) (t : List ℕ) where
-  pub filled-start : Filled g len mid (mid + 1) (mid + 1) t
-  filled-start = record { at = λ j s. go j s }
+  pub filled_start : Filled g len mid (mid + 1) (mid + 1) t
+  filled_start = record { at = λ j s. go j s }
     where
       go : (j : ℕ) → Sure len mid (mid + 1) (mid + 1) j → Match g len mid j (get_or t j 0)
       go j (inl s) = absurd (omega arith)
       go j (inr s) = absurd (omega arith)
 
-  pub filled-turn : Filled g len mid (mid + 1) (len + 1) t → Filled g len mid 0 0 t
-  filled-turn S = record { at = λ j s. go j s }
+  pub filled_turn : Filled g len mid (mid + 1) (len + 1) t → Filled g len mid 0 0 t
+  filled_turn S = record { at = λ j s. go j s }
     where
       go : (j : ℕ) → Sure len mid 0 0 j → Match g len mid j (get_or t j 0)
       go j (inl s) = absurd (omega arith)
       go j (inr s) = S.at j (inl (omega arith, omega arith))
 
-  pub filled-done : mid < length t → mid ≤ len → Filled g len mid 0 mid t → Matched g len mid (set t mid (len - mid))
-  filled-done r m S = record { at = λ j l. go j l (ℕ_discrete j mid) (dec_lt j mid) }
+  pub filled_done : mid < length t → mid ≤ len → Filled g len mid 0 mid t → Matched g len mid (set t mid (len - mid))
+  filled_done r m S = record { at = λ j l. go j l (ℕ_discrete j mid) (dec_lt j mid) }
     where
       go : (j : ℕ) → j ≤ len → Dec (j ≡ mid) → Dec (j < mid) → Match g len mid j (get_or (set t mid (len - mid)) j 0)
       go j l (yes z) h = rw z (rw (get_or-set_same t mid (len - mid) 0 r) (match_ends g len mid mid (len - mid) record { fits = omega arith; fits_mid = omega arith; same = λ i x. refl } (λ x y. omega arith)))

@@ -11,10 +11,10 @@ use lib.ListN.{length}
 use Rattle.periods.specs.Period.{part, smallest_period, held_period, Repetition, repetition?}
 use Rattle.periods.specs.Edition.{turns_of}
 use Rattle.periods.proofs.Editions.{two_turns}
-use Rattle.periods.proofs.InPlace.{SmallestIn, symbol, placed_part, part-smallest_in, part-smallest_out}
-use Rattle.periods.proofs.Claims.{part-smallest}
+use Rattle.periods.proofs.InPlace.{SmallestIn, symbol, placed_part, part_smallest_in, part_smallest_out}
+use Rattle.periods.proofs.Claims.{part_smallest}
 use Rattle.factors.specs.Factorization.{Factorization, size}
-use Rattle.factors.proofs.Chains.{chain_map, size-half}
+use Rattle.factors.proofs.Chains.{chain_map, size_half}
 use Rattle.factorizer.proofs.Pieces.{piece_up}
 use Rattle.factorizer.proofs.Rules.{repetition_decides}
 use Rattle.repetitions.specs.Block.{Block}
@@ -38,7 +38,7 @@ module _ (allowed : ℕ → Bool) (k : ℕ) (w : List ℕ) (i j : ℕ) where
   block_in K = record {
     period = K.1.period;
     within = K.0;
-    smallest = part-smallest_in w i j K.1.period K.0 K.1.smallest;
+    smallest = part_smallest_in w i j K.1.period K.0 K.1.smallest;
     long = block_long K;
     permitted = K.1.permitted;
   }
@@ -48,7 +48,7 @@ module _ (allowed : ℕ → Bool) (k : ℕ) (w : List ℕ) (i j : ℕ) where
     K.within,
     record {
       period = K.period;
-      smallest = part-smallest_out w i j K.period K.within K.smallest;
+      smallest = part_smallest_out w i j K.period K.within K.smallest;
       long = omega (arith, (placed_part w i j K.within).long);
       permitted = K.permitted;
     },
@@ -60,7 +60,7 @@ module _ (allowed : ℕ → Bool) (k : ℕ) (w : List ℕ) (i j : ℕ) where
 
   -- its unit is not 0 and fits into it
   pub block_unit_lem : Block allowed k w i j → (p : ℕ) → p ≡ smallest_period (part w i j) → (1 ≤ p) × (i + p ≤ j)
-  block_unit_lem K p e = let S = (part-smallest w i j K.0 (block_up K)).period in (omega (arith, e, S.positive), omega (arith, e, S.fits))
+  block_unit_lem K p e = let S = (part_smallest w i j K.0 (block_up K)).period in (omega (arith, e, S.positive), omega (arith, e, S.fits))
 
 -- ---- fewer turns
 
@@ -83,7 +83,7 @@ edition_two_turns edition w n es = factorization_fewer_turns held_period 2 (turn
 
 -- CLAIM: "a split has at most n/2 blocks, rounded down", of any turn number from two up, whatever periods are allowed, and of either edition
 pub blocks_half : (allowed : ℕ → Bool) (k : ℕ) (w : List ℕ) → 2 ≤ k → (m : ℕ) (es : List ℕ) → Factorization (Block allowed k w) m es → size es ≤ m / 2
-blocks_half allowed k w two = size-half (Block allowed k w) long
+blocks_half allowed k w two = size_half (Block allowed k w) long
   where
     long : (a b : ℕ) → Block allowed k w a b → a + 2 ≤ b
     long a b K = omega (arith, mul-le-mul_right K.1.period two, block_long allowed k w a b K, K.1.smallest.period.positive)

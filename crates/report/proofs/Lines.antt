@@ -11,10 +11,10 @@ use lib.Dec.{eqb, eqb-suc-zero}
 use lib.ListN.{length, take, length-append, length-take}
 use Rattle.periods.specs.Period.{part, smallest_period, held_period}
 use Rattle.periods.proofs.Editions.{two_turns}
-use Rattle.periods.proofs.Claims.{smallest_period-unique}
+use Rattle.periods.proofs.Claims.{smallest_period_unique}
 use Rattle.runs.specs.declared.Record.{Record}
 use Rattle.runs.specs.Table.{runs_of, numbers_of, records, record_at}
-use Rattle.runs.proofs.Rows.{part-long}
+use Rattle.runs.proofs.Rows.{part_long}
 use Rattle.finder.specs.Find.{enclosing?, step, find_run}
 use Rattle.runs.proofs.Records.{records_none, records_more, length-records}
 use Rattle.factors.specs.Factorization.{text_of_blocks}
@@ -24,7 +24,7 @@ use Rattle.repetitions.proofs.Blocks.{block_up}
 use Rattle.report.specs.Records.{run_bytes, block_bytes}
 use Rattle.report.specs.Text.{printed_edition, printed_turns, run_name, block_name, run_lines, block_line, block_lines}
 use Rattle.writers.specs.Line.{line}
-use Rattle.writers.proofs.Stores.{line-long}
+use Rattle.writers.proofs.Stores.{line_long}
 use Rattle.runs.proofs.Number.{run_numbered}
 
 -- ---- runs
@@ -33,44 +33,44 @@ pub run_lines-none : (t : List ℕ) → run_lines 0 (records 0 t) ≡ []
 unfolding run_lines
 run_lines-none t = ap (run_lines 0) (records_none t)
 
-run_lines-snoc : (rows : List Record) (r : Record) (i : ℕ) → run_lines i (rows ++ (r ∷ [])) ≡ run_lines i rows ++ line run_name ((i + length rows + 1) ∷ numbers_of r)
+run_lines_snoc : (rows : List Record) (r : Record) (i : ℕ) → run_lines i (rows ++ (r ∷ [])) ≡ run_lines i rows ++ line run_name ((i + length rows + 1) ∷ numbers_of r)
 unfolding run_lines
-run_lines-snoc [] r i = ap (λ (k : ℕ). line run_name (k ∷ numbers_of r) ++ []) {x = suc i} {y = i + 0 + 1} (omega arith) ∙ append-nil (line run_name ((i + 0 + 1) ∷ numbers_of r))
-run_lines-snoc (x ∷ rows) r i =
+run_lines_snoc [] r i = ap (λ (k : ℕ). line run_name (k ∷ numbers_of r) ++ []) {x = suc i} {y = i + 0 + 1} (omega arith) ∙ append-nil (line run_name ((i + 0 + 1) ∷ numbers_of r))
+run_lines_snoc (x ∷ rows) r i =
     let e : suc i + length rows + 1 ≡ i + suc (length rows) + 1 = omega arith in
-    ap (λ (l : List ℕ). line run_name (suc i ∷ numbers_of x) ++ l) (run_lines-snoc rows r (suc i) ∙ ap (λ (k : ℕ). run_lines (suc i) rows ++ line run_name (k ∷ numbers_of r)) e)
+    ap (λ (l : List ℕ). line run_name (suc i ∷ numbers_of x) ++ l) (run_lines_snoc rows r (suc i) ∙ ap (λ (k : ℕ). run_lines (suc i) rows ++ line run_name (k ∷ numbers_of r)) e)
     ∙ sym (append_assoc (line run_name (suc i ∷ numbers_of x)) (run_lines (suc i) rows) (line run_name ((i + suc (length rows) + 1) ∷ numbers_of r)))
 
 -- the line of one more record of a table
-pub run_lines-more : (t : List ℕ) (i : ℕ) → run_lines 0 (records i t) ++ line run_name ((i + 1) ∷ numbers_of (record_at t i)) ≡ run_lines 0 (records (i + 1) t)
-run_lines-more t i =
+pub run_lines_more : (t : List ℕ) (i : ℕ) → run_lines 0 (records i t) ++ line run_name ((i + 1) ∷ numbers_of (record_at t i)) ≡ run_lines 0 (records (i + 1) t)
+run_lines_more t i =
     let e : i + 1 ≡ 0 + length (records i t) + 1 = omega (arith, length-records t i) in
     ap (λ (k : ℕ). run_lines 0 (records i t) ++ line run_name (k ∷ numbers_of (record_at t i))) e
-    ∙ sym (run_lines-snoc (records i t) (record_at t i) 0)
+    ∙ sym (run_lines_snoc (records i t) (record_at t i) 0)
     ∙ ap (run_lines 0) (sym (records_more t i))
 
-pub run_lines-long : (rows : List Record) (i : ℕ) → length (run_lines i rows) ≤ run_bytes * length rows
+pub run_lines_long : (rows : List Record) (i : ℕ) → length (run_lines i rows) ≤ run_bytes * length rows
 unfolding run_lines
-run_lines-long [] i = omega arith
-run_lines-long (r ∷ rows) i =
-    omega (arith, run_lines-long rows (suc i), line-long run_name (suc i ∷ numbers_of r), length-append (line run_name (suc i ∷ numbers_of r)) (run_lines (suc i) rows))
+run_lines_long [] i = omega arith
+run_lines_long (r ∷ rows) i =
+    omega (arith, run_lines_long rows (suc i), line_long run_name (suc i ∷ numbers_of r), length-append (line run_name (suc i ∷ numbers_of r)) (run_lines (suc i) rows))
 
 -- ---- blocks
 
 -- a block's line, by its numbers
-pub block_line-is : (w : List ℕ) (number i j : ℕ) → line block_name (block_numbers w number i j) ≡ block_line w number i j
+pub block_line_is : (w : List ℕ) (number i j : ℕ) → line block_name (block_numbers w number i j) ≡ block_line w number i j
 unfolding block_line
-block_line-is w number i j = refl
+block_line_is w number i j = refl
 
-block_line-long : (w : List ℕ) (number i j : ℕ) → length (block_line w number i j) ≤ block_bytes
+block_line_long : (w : List ℕ) (number i j : ℕ) → length (block_line w number i j) ≤ block_bytes
 unfolding block_line
-block_line-long w number i j = line-long block_name _
+block_line_long w number i j = line_long block_name _
 
-pub block_lines-long : (w es : List ℕ) (k i : ℕ) → length (block_lines w k i es) ≤ block_bytes * length es
+pub block_lines_long : (w es : List ℕ) (k i : ℕ) → length (block_lines w k i es) ≤ block_bytes * length es
 unfolding text_of_blocks
-block_lines-long w [] k i = omega arith
-block_lines-long w (e ∷ es) k i =
-    omega (arith, block_lines-long w es (suc k) e, block_line-long w (suc k) i e, length-append (block_line w (suc k) i e) (block_lines w (suc k) e es))
+block_lines_long w [] k i = omega arith
+block_lines_long w (e ∷ es) k i =
+    omega (arith, block_lines_long w es (suc k) e, block_line_long w (suc k) i e, length-append (block_line w (suc k) i e) (block_lines w (suc k) e es))
 
 -- ---- the record of a block
 
@@ -102,14 +102,14 @@ find_first i j p (r ∷ rs) h = go (find_first i j p rs) (encloses? i j p r) h
 
 -- a block is twice its unit or longer
 block_twice : (w : List ℕ) (i j : ℕ) → Block held_period printed_turns w i j → 2 * smallest_period (part w i j) ≤ length (part w i j)
-block_twice w i j K = omega (arith, K.1.long, mul-le-mul_right K.1.period (two_turns printed_edition), smallest_period-unique (part w i j) K.1.period K.1.smallest)
+block_twice w i j K = omega (arith, K.1.long, mul-le-mul_right K.1.period (two_turns printed_edition), smallest_period_unique (part w i j) K.1.period K.1.smallest)
 
 -- CLAIM: the first record that encloses a block and has its unit is the block's run
 pub find_is_run_number : (w : List ℕ) (i j : ℕ) → Block held_period printed_turns w i j
     → find_run (runs_of w) (i + 1) j (smallest_period (part w i j)) + 1 ≡ run_number w i j
 unfolding run_number
 find_is_run_number w i j K =
-    let l = part-long w i j K.0 in
+    let l = part_long w i j K.0 in
     let u = block_up held_period printed_turns w i j K in
     find_first i j (smallest_period (part w i j)) (runs_of w) (run_numbered w i j K.0 (omega arith) (block_twice w i j K))
 

@@ -29,8 +29,8 @@ use Rattle.repetitions.proofs.BestClaims.{word_answers, Promised, promised_chose
 use Rattle.report.specs.Text.{printed_edition, printed_turns, program_limit, passes_name, fewest_name, most_name, none_text, run_lines, block_lines, split_lines, split_text, text}
 use Rattle.writers.specs.Line.{line}
 use Rattle.report.specs.Records.{most_blocks, split_bytes, longest_text}
-use Rattle.writers.proofs.Stores.{line-long}
-use Rattle.report.proofs.Lines.{run_lines-long, block_lines-long}
+use Rattle.writers.proofs.Stores.{line_long}
+use Rattle.report.proofs.Lines.{run_lines_long, block_lines_long}
 
 -- the ends of the best split
 abbrev pub ends_of : List ℕ → ℕ → List ℕ
@@ -102,8 +102,8 @@ split_long w choice name h k = go (last_cell printed_turns w choice) (word_answe
         omega (
           arith,
           length-append (line name (s ∷ [])) (block_lines w 0 0 (ends_of w choice)),
-          line-long name (s ∷ []),
-          block_lines-long w (ends_of w choice) 0 0,
+          line_long name (s ∷ []),
+          block_lines_long w (ends_of w choice) 0 0,
           edition_half printed_edition w (length w) (ends_of w choice) A.factorization,
         )
 
@@ -120,8 +120,8 @@ text_long w h =
       length-append A (R ++ (F ++ M)),
       length-append R (F ++ M),
       length-append F M,
-      line-long passes_name (length w ∷ []),
-      run_lines-long (runs_of w) 0,
+      line_long passes_name (length w ∷ []),
+      run_lines_long (runs_of w) 0,
       table_at_most w,
       split_long w 1 fewest_name h (omega arith),
       split_long w 2 most_name h (omega arith),

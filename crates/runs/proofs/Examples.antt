@@ -9,20 +9,20 @@ use Rattle.runs.specs.Calls.{runs_outcome, runs_table}
 use Rattle.periods.proofs.Words.{word_aa, word_aabaabaa}
 
 -- the run from 1 to 8 with unit 3, and the three runs aa, by first and then by unit
-pub runs_of-aabaabaa : flat (runs_of word_aabaabaa) ≡ 1 ∷ 2 ∷ 1 ∷ 1 ∷ 1 ∷ 8 ∷ 3 ∷ 1 ∷ 4 ∷ 5 ∷ 1 ∷ 4 ∷ 7 ∷ 8 ∷ 1 ∷ 7 ∷ []
+pub runs_of_aabaabaa : flat (runs_of word_aabaabaa) ≡ 1 ∷ 2 ∷ 1 ∷ 1 ∷ 1 ∷ 8 ∷ 3 ∷ 1 ∷ 4 ∷ 5 ∷ 1 ∷ 4 ∷ 7 ∷ 8 ∷ 1 ∷ 7 ∷ []
 unfolding runs_of rows_before rows_at run_between run? root_of least_start repetition? smallest_period
-runs_of-aabaabaa = refl
+runs_of_aabaabaa = refl
 
 -- "Two runs may wind the same unit from different starting passes": a b a b and b a b a, whose roots are both a b; between them b a b b a b and b b
-pub runs_of-ababbaba : flat (runs_of (97 ∷ 98 ∷ 97 ∷ 98 ∷ 98 ∷ 97 ∷ 98 ∷ 97 ∷ []))
+pub runs_of_ababbaba : flat (runs_of (97 ∷ 98 ∷ 97 ∷ 98 ∷ 98 ∷ 97 ∷ 98 ∷ 97 ∷ []))
     ≡ 1 ∷ 4 ∷ 2 ∷ 1 ∷ 2 ∷ 7 ∷ 3 ∷ 3 ∷ 4 ∷ 5 ∷ 1 ∷ 4 ∷ 5 ∷ 8 ∷ 2 ∷ 6 ∷ []
 unfolding runs_of rows_before rows_at run_between run? root_of least_start repetition? smallest_period
-runs_of-ababbaba = refl
+runs_of_ababbaba = refl
 
 -- codes above 127 come after those below
-pub runs_of-high_codes : flat (runs_of (200 ∷ 100 ∷ 200 ∷ 100 ∷ [])) ≡ 1 ∷ 4 ∷ 2 ∷ 2 ∷ []
+pub runs_of_high_codes : flat (runs_of (200 ∷ 100 ∷ 200 ∷ 100 ∷ [])) ≡ 1 ∷ 4 ∷ 2 ∷ 2 ∷ []
 unfolding runs_of rows_before rows_at run_between run? root_of least_start repetition? smallest_period
-runs_of-high_codes = refl
+runs_of_high_codes = refl
 
 -- "roots ordered by code": of 16-bit codes the high byte decides first, and no code is negative
 pub runs_by_the_high_byte : flat (runs_of (256 ∷ 1 ∷ 256 ∷ 1 ∷ [])) ≡ 1 ∷ 4 ∷ 2 ∷ 2 ∷ []
@@ -62,9 +62,9 @@ unfolding runs_table runs_of rows_before rows_at run_between run? root_of least_
 runs_written_in_aa = refl
 
 -- the empty word has no runs, and they need no place
-pub runs_of-empty : runs_outcome [] 0 ≡ accepted (0 ∷ [])
+pub runs_of_empty : runs_outcome [] 0 ≡ accepted (0 ∷ [])
 unfolding runs_outcome runs_of rows_before
-runs_of-empty = refl
+runs_of_empty = refl
 
 -- "70,001 passes"
 pub runs_too_long_first : runs_outcome (replicate 70001 97) 0 ≡ refused 1 0
@@ -72,9 +72,9 @@ unfolding runs_outcome
 runs_too_long_first = refl
 
 -- a run of exactly two turns has its node at its last position: the strict bound of section 4.1 of the paper would lose it
-pub runs_of-aa : flat (runs_of word_aa) ≡ 1 ∷ 2 ∷ 1 ∷ 1 ∷ []
+pub runs_of_aa : flat (runs_of word_aa) ≡ 1 ∷ 2 ∷ 1 ∷ 1 ∷ []
 unfolding runs_of rows_before rows_at run_between run? root_of least_start repetition? smallest_period
-runs_of-aa = refl
+runs_of_aa = refl
 
 -- how near n the number of runs comes: one in two symbols, ten in fourteen
 pub one_run_in_2 : length (runs_of word_aa) ≡ 1

@@ -18,7 +18,7 @@ use Rattle.runs.specs.Table.{runs_of}
 use Rattle.runs.proofs.InPlace.{RunIn, run_unique, run_in}
 use Rattle.runs.proofs.Entries.{entry_same}
 use Rattle.runs.proofs.Listed.{runs_listed}
-use Rattle.runs.proofs.Roots.{Below, Ahead, LeastStart, Lyndon, below_asym, ahead_differs, ahead_order, least_start-exists, least_start-lyndon}
+use Rattle.runs.proofs.Roots.{Below, Ahead, LeastStart, Lyndon, below_asym, ahead_differs, ahead_order, least_start_exists, least_start_lyndon}
 
 -- boundary q marks the run between the boundaries A and B; where the run ends with the word, either order will do
 pub record Mark (f : ℕ → ℕ) (n A B p q : ℕ) : Type 0 where
@@ -41,13 +41,13 @@ module _ (f : ℕ → ℕ) (n : ℕ) where
           order = o;
           after = X.from;
           upto = omega arith;
-          lyndon = least_start-lyndon f A B p R.smallest (suc A) (omega arith) (omega arith) o q X;
+          lyndon = least_start_lyndon f A B p R.smallest (suc A) (omega arith) (omega arith) o q X;
           next = h;
         },
       )
 
       start : (o : Bool) → (q : ℕ) × LeastStart o f (suc A) p p q
-      start o = least_start-exists f A B p R.smallest (suc A) (omega arith) (omega arith) o
+      start o = least_start_exists f A B p R.smallest (suc A) (omega arith) (omega arith) o
 
       go : Dec (f B < f (B - p)) → (q : ℕ) × Mark f n A B p q
       go (yes v) = make true (λ l. v) (start true)

@@ -11,7 +11,7 @@ use native.Mathlib.Nat.{le_antisymm}
 use native.Mathlib.Decide.{dec_lt, ℕ_discrete}
 use lib.ListN.{length}
 use Rattle.periods.specs.Period.{part, SmallestPeriod}
-use Rattle.periods.proofs.InPlace.{PeriodIn, SmallestIn, symbol, Placed, placed_part, period_piece, part-smallest_in, part-smallest_out}
+use Rattle.periods.proofs.InPlace.{PeriodIn, SmallestIn, symbol, Placed, placed_part, period_piece, part_smallest_in, part_smallest_out}
 use Rattle.runs.specs.Run.{symbol_at, Run}
 
 -- the boundaries A and B are first - 1 and last
@@ -148,7 +148,7 @@ module _ (f : ℕ → ℕ) where
 
 pub run_in : (w : List ℕ) (first last p : ℕ) → Run w first last p → RunIn (symbol w) (length w) (first - 1) last p
 run_in w first last p R = record {
-  smallest = part-smallest_in w (first - 1) last p R.ends R.smallest;
+  smallest = part_smallest_in w (first - 1) last p R.ends R.smallest;
   twice = omega (arith, P.long, R.twice, R.smallest.period.positive);
   within = R.ends;
   left = λ i e. left i e R.left;
@@ -170,7 +170,7 @@ pub run_out : (w : List ℕ) (A B p : ℕ) → RunIn (symbol w) (length w) A B p
 run_out w A B p R = record {
   starts = omega arith;
   ends = R.within;
-  smallest = rw e (part-smallest_out w A B p R.within R.smallest);
+  smallest = rw e (part_smallest_out w A B p R.within R.smallest);
   twice = rw e (omega (arith, P.long, R.twice));
   left = left A R.left;
   right = right (dec_lt B (length w));
@@ -206,7 +206,7 @@ pub one_run : (w : List ℕ) (i j p : ℕ) → j ≤ length w → SmallestPeriod
 one_run w i j p h S t = go (run_exists (symbol w) (length w) i j p U twice h)
   where
     U : SmallestIn (symbol w) i j p
-    U = part-smallest_in w i j p h S
+    U = part_smallest_in w i j p h S
 
     twice : i + 2 * p ≤ j
     twice = omega (arith, (placed_part w i j h).long, U.period.positive, U.period.fits)

@@ -13,7 +13,7 @@ use lib.ListN.{length}
 use Rattle.laws.proofs.Tests.{and_intro, and_left, and_right, or_cases, or_left, or_right}
 use Rattle.periods.specs.Period.{part, smallest_period, repetition?, any_period}
 use Rattle.periods.proofs.InPlace.{symbol, placed_part, period_piece}
-use Rattle.periods.proofs.Claims.{smallest_period-is, smallest_period-unique, repetition_sound, repetition_complete, part-smallest, part-smallest_unique}
+use Rattle.periods.proofs.Claims.{smallest_period_is, smallest_period_unique, repetition_sound, repetition_complete, part_smallest, part_smallest_unique}
 use Rattle.runs.specs.declared.Record.{Record}
 use Rattle.runs.specs.Run.{Run, Root, Entry, Before, Sorted, Lists}
 use Rattle.runs.specs.Table.{left?, right?, run?, root_of, record_of, run_between, rows_at, rows_before, runs_of}
@@ -61,9 +61,9 @@ module _ (w : List ℕ) (a b : ℕ) (l : b ≤ length w) where
       let R = repetition_sound any_period 2 (part w a b) (and_left (repetition? any_period 2 (part w a b)) (left? w a p && right? w b p) t) in
       let u = and_right (repetition? any_period 2 (part w a b)) (left? w a p && right? w b p) t in
       let n = (placed_part w a b l).long in
-      let e : R.period ≡ p = sym (smallest_period-unique (part w a b) R.period R.smallest) in
+      let e : R.period ≡ p = sym (smallest_period_unique (part w a b) R.period R.smallest) in
       record {
-        smallest = part-smallest w a b l (omega (arith, R.smallest.period.positive, R.smallest.period.fits));
+        smallest = part_smallest w a b l (omega (arith, R.smallest.period.positive, R.smallest.period.fits));
         twice = omega (arith, R.long, R.smallest.period.positive);
         within = l;
         left = λ i z. left_sound w a p i (and_left (left? w a p) (right? w b p) u) z;
@@ -77,7 +77,7 @@ module _ (w : List ℕ) (a b : ℕ) (l : b ≤ length w) where
     and_intro (repetition? any_period 2 (part w a b)) (left? w a q && right? w b q)
         (repetition_complete any_period 2 (part w a b) record {
           period = q;
-          smallest = smallest_period-is (part w a b) (omega (arith, n, R.smallest.period.positive, R.smallest.period.fits));
+          smallest = smallest_period_is (part w a b) (omega (arith, n, R.smallest.period.positive, R.smallest.period.fits));
           long = omega (arith, n, e, R.twice);
           permitted = tt;
         })
@@ -90,7 +90,7 @@ module _ (w : List ℕ) (a b : ℕ) (l : b ≤ length w) where
       q = smallest_period (part w a b)
 
       e : p ≡ q
-      e = sym (part-smallest_unique w a b l p R.smallest)
+      e = sym (part_smallest_unique w a b l p R.smallest)
 
       n : length (part w a b) ≡ b - a
       n = (placed_part w a b l).long

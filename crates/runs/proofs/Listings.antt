@@ -51,19 +51,19 @@ key_unit first p = omega (arith, held_or_none p)
 
 -- ---- the numbers of some runs
 
-pub length-entry : (l : Listing) (r : Record) → length (entry_of l r) ≡ stride_of l
-length-entry Records r = refl
-length-entry Keys r = refl
-length-entry (Marks k x) r = refl
+pub length_entry : (l : Listing) (r : Record) → length (entry_of l r) ≡ stride_of l
+length_entry Records r = refl
+length_entry Keys r = refl
+length_entry (Marks k x) r = refl
 
-pub stride-small : (l : Listing) → stride_of l ≤ stride
-stride-small Records = omega arith
-stride-small Keys = omega arith
-stride-small (Marks k x) = omega arith
+pub stride_small : (l : Listing) → stride_of l ≤ stride
+stride_small Records = omega arith
+stride_small Keys = omega arith
+stride_small (Marks k x) = omega arith
 
 pub length-flat_by : (l : Listing) (rs : List Record) → length (flat_by l rs) ≡ stride_of l * length rs
 length-flat_by l [] = omega arith
-length-flat_by l (r ∷ rs) = omega (arith, length-append (entry_of l r) (flat_by l rs), length-entry l r, length-flat_by l rs)
+length-flat_by l (r ∷ rs) = omega (arith, length-append (entry_of l r) (flat_by l rs), length_entry l r, length-flat_by l rs)
 
 pub flat_by-append : (l : Listing) (rs ss : List Record) → flat_by l (rs ++ ss) ≡ flat_by l rs ++ flat_by l ss
 flat_by-append l [] ss = refl

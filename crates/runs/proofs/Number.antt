@@ -12,7 +12,7 @@ use lib.Dec.{T, leb, eqb, le→leb, eqb_refl, eqb-suc-zero}
 use lib.ListN.{length}
 use Rattle.laws.proofs.Tests.{and_intro}
 use Rattle.periods.specs.Period.{part, smallest_period}
-use Rattle.periods.proofs.Claims.{smallest_period-is}
+use Rattle.periods.proofs.Claims.{smallest_period_is}
 use Rattle.runs.specs.declared.Record.{Record}
 use Rattle.runs.specs.Run.{Entry}
 use Rattle.runs.specs.Table.{runs_of}
@@ -20,7 +20,7 @@ use Rattle.runs.specs.Number.{encloses?, first_number, run_number, block_numbers
 use Rattle.runs.proofs.Entries.{no_entry}
 use Rattle.runs.proofs.Listed.{runs_listed}
 use Rattle.runs.proofs.InPlace.{one_run}
-use Rattle.runs.proofs.Rows.{part-long}
+use Rattle.runs.proofs.Rows.{part_long}
 
 next_suc : (i : ℕ) → cond (eqb (suc i) 0) 0 (suc (suc i)) ≡ suc (suc i)
 next_suc i = rw (eqb-suc-zero i) refl
@@ -90,7 +90,7 @@ pub run_numbered : (w : List ℕ) (i j : ℕ) → j ≤ length w → 0 < length 
 unfolding run_number
 run_numbered w i j h some twice e =
     let p = smallest_period (part w i j) in
-    let R = one_run w i j p h (smallest_period-is (part w i j) some) twice in
+    let R = one_run w i j p h (smallest_period_is (part w i j) some) twice in
     let E = (runs_listed w).complete R.first R.last p R.run in
     first_none (encloses? i j p) (runs_of w) e E.0
     record {
@@ -104,13 +104,13 @@ run_numbered w i j h some twice e =
 -- ---- the numbers of a block
 
 -- by its unit and its run number
-pub block_numbers-are : (w : List ℕ) (k i j unit run : ℕ) → j ≤ length w → unit ≡ smallest_period (part w i j) → run ≡ run_number w i j
+pub block_numbers_are : (w : List ℕ) (k i j unit run : ℕ) → j ≤ length w → unit ≡ smallest_period (part w i j) → run ≡ run_number w i j
     → (k + 1) ∷ (i + 1) ∷ j ∷ unit ∷ ((j - i) / unit) ∷ ((j - i) % unit) ∷ run ∷ [] ≡ block_numbers w (k + 1) i j
-block_numbers-are w k i j unit run h e f =
+block_numbers_are w k i j unit run h e f =
     let p = smallest_period (part w i j) in
     rw (e, f, add-one i)
-    (ap (λ (n : ℕ). (k + 1) ∷ suc i ∷ j ∷ p ∷ (n / p) ∷ (n % p) ∷ run_number w i j ∷ []) (sym (part-long w i j h)))
+    (ap (λ (n : ℕ). (k + 1) ∷ suc i ∷ j ∷ p ∷ (n / p) ∷ (n % p) ∷ run_number w i j ∷ []) (sym (part_long w i j h)))
 
-pub run_number-at_most : (w : List ℕ) (i j : ℕ) → run_number w i j ≤ length (runs_of w)
+pub run_number_at_most : (w : List ℕ) (i j : ℕ) → run_number w i j ≤ length (runs_of w)
 unfolding run_number
-run_number-at_most w i j = first_at_most (encloses? i j (smallest_period (part w i j))) (runs_of w)
+run_number_at_most w i j = first_at_most (encloses? i j (smallest_period (part w i j))) (runs_of w)

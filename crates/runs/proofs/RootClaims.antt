@@ -10,12 +10,12 @@ use lib.Dec.{T, ltb, eqb, ltb→lt, lt→ltb, eqb→eq, eqb_refl}
 use lib.ListN.{length}
 use Rattle.periods.specs.Period.{part, SmallestPeriod}
 use Rattle.periods.specs.Square.{Primitive, Square}
-use Rattle.periods.proofs.InPlace.{SmallestIn, symbol, placed_part, part-smallest_out, part_cut}
+use Rattle.periods.proofs.InPlace.{SmallestIn, symbol, placed_part, part_smallest_out, part_cut}
 use Rattle.periods.proofs.Squares.{square_even, period_half, unit_half_primitive}
 use Rattle.runs.specs.Run.{symbol_at, Run, Precedes, Root}
 use Rattle.runs.specs.Table.{precedes?, least_start, root_of}
 use Rattle.runs.proofs.InPlace.{RunIn, run_in, piece_smallest}
-use Rattle.runs.proofs.Roots.{Agree, Ahead, LeastStart, agree_none, least_one, least_kept, least_moved, least_start-unique, window_total}
+use Rattle.runs.proofs.Roots.{Agree, Ahead, LeastStart, agree_none, least_one, least_kept, least_moved, least_start_unique, window_total}
 
 -- ---- the computed comparison
 
@@ -138,7 +138,7 @@ module _ (w : List ℕ) where
 pub two_turns : (w : List ℕ) (a b p : ℕ) → RunIn (symbol w) (length w) a b p → (a + 2 * p ≤ length w) × SmallestPeriod (part w a (a + 2 * p)) p
 two_turns w a b p R = (
   omega arith,
-  part-smallest_out w a (a + 2 * p) p (omega arith) (piece_smallest (symbol w) (length w) a b a (a + 2 * p) p R (omega arith) R.twice (omega arith)),
+  part_smallest_out w a (a + 2 * p) p (omega arith) (piece_smallest (symbol w) (length w) a b a (a + 2 * p) p R (omega arith) R.twice (omega arith)),
 )
 
 module _ (w : List ℕ) (first last p : ℕ) (R : Run w first last p) where
@@ -154,7 +154,7 @@ module _ (w : List ℕ) (first last p : ℕ) (R : Run w first last p) where
 
   -- CLAIM: and one only
   pub root_unique : (q q' : ℕ) → Root w first p q → Root w first p q' → q ≡ q'
-  root_unique q q' X Y = least_start-unique (symbol_at w) (root_least w first p q R.starts X) (root_least w first p q' R.starts Y)
+  root_unique q q' X Y = least_start_unique (symbol_at w) (root_least w first p q R.starts X) (root_least w first p q' R.starts Y)
 
   -- CLAIM: its unit is primitive
   pub unit_primitive : Primitive (part w (first - 1) (first - 1 + p))

@@ -9,7 +9,7 @@ use native.Mathlib.Omega.{arith}
 use native.Mathlib.Decide.{dec_lt, ℕ_discrete}
 use lib.ListN.{length}
 use Rattle.periods.specs.Period.{part, SmallestPeriod}
-use Rattle.periods.proofs.InPlace.{SmallestIn, symbol, part-smallest_in}
+use Rattle.periods.proofs.InPlace.{SmallestIn, symbol, part_smallest_in}
 use Rattle.runs.specs.Table.{least_start, root_of}
 use Rattle.runs.proofs.Roots.{Agree, LeastStart, agree_more, window_differs, overtaken}
 use Rattle.runs.proofs.RootClaims.{least_computed}
@@ -20,7 +20,7 @@ Narrowed w a p best rival = (least_start w p a (p - 1) ≡ best) ⊎ (rival ≤ 
 
 module _ (w : List ℕ) (a p : ℕ) (fits : a + 2 * p ≤ length w) (unit : SmallestPeriod (part w a (a + 2 * p)) p) where
   U : SmallestIn (symbol w) a (a + 2 * p) p
-  U = part-smallest_in w a (a + 2 * p) p fits unit
+  U = part_smallest_in w a (a + 2 * p) p fits unit
 
   abbrev least : ℕ
   least = least_start w p a (p - 1)

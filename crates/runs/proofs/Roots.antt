@@ -1,5 +1,5 @@
 -- The least start of a window: of the p starts of a window in a part with smallest period p there is one, and one only, whose p symbols come before those of
--- every other (`least_start-exists`, `least_start-unique`), and these symbols are a Lyndon word (`least_start-lyndon`). In a sequence of symbols `f : ℕ → ℕ`
+-- every other (`least_start_exists`, `least_start_unique`), and these symbols are a Lyndon word (`least_start_lyndon`). In a sequence of symbols `f : ℕ → ℕ`
 -- counted from 0, for the order of symbols and for its reverse. Two starts differ within p symbols, since otherwise their distance would be a smaller period. Where
 -- the symbols from one place come before those from another, no start up to the first difference after the other is the least (`overtaken`): the start as far on
 -- after the one comes before it. So the least start's symbols differ from each of their suffixes within it, and so a search can leap. Assumes nothing.
@@ -190,8 +190,8 @@ module _ (f : ℕ → ℕ) where
           by (inl X) = (q, least_kept L X)
           by (inr X) = (s + suc d, least_moved L X)
 
-  pub least_start-unique : {o : Bool} {s d m q q' : ℕ} → LeastStart o f s d m q → LeastStart o f s d m q' → q ≡ q'
-  least_start-unique {o} {s} {d} {m} {q} {q'} X Y = go (ℕ_discrete q q')
+  pub least_start_unique : {o : Bool} {s d m q q' : ℕ} → LeastStart o f s d m q → LeastStart o f s d m q' → q ≡ q'
+  least_start_unique {o} {s} {d} {m} {q} {q'} X Y = go (ℕ_discrete q q')
     where
       go : Dec (q ≡ q') → q ≡ q'
       go (yes e) = e
@@ -218,8 +218,8 @@ module _ (f : ℕ → ℕ) where
         go (inr r) = r
         go (inl h) = absurd (window_differs a b l x u h)
 
-    pub least_start-exists : (q : ℕ) × LeastStart o f s p p q
-    least_start-exists =
+    pub least_start_exists : (q : ℕ) × LeastStart o f s p p q
+    least_start_exists =
         subst (λ (d : ℕ). (q : ℕ) × LeastStart o f s d p q) (omega arith)
         (least_of o p s (p - 1) (λ a b x y z. window_total a b x y (omega arith)))
 
@@ -231,9 +231,9 @@ module _ (f : ℕ → ℕ) where
     step_same t (inl z) x y e l u = ap f (omega arith)
     step_same t (inr z) x y e l u = U.period.same x l (omega arith) ∙ ap f (omega arith)
 
-    step-not : (t : ℕ) → Step t → (q c y : ℕ) → c + t ≡ y → q < y → y < q + p → c ≢ q
-    step-not t (inl z) q c y e l u v = omega arith
-    step-not t (inr z) q c y e l u v = omega arith
+    step_not : (t : ℕ) → Step t → (q c y : ℕ) → c + t ≡ y → q < y → y < q + p → c ≢ q
+    step_not t (inl z) q c y e l u v = omega arith
+    step_not t (inr z) q c y e l u v = omega arith
 
     module _ (q : ℕ) (X : LeastStart o f s p p q) where
       -- the symbols from x and y agree k times, and then y's come before x's: the least start, or the place one period on (r), is not among x and the k places after it
@@ -272,7 +272,7 @@ module _ (f : ℕ → ℕ) where
 
       -- y is the start c of the window or one period on (t), and t' is the other step; m is what is left from y on of the p symbols from q
       lyndon_at : (t t' : ℕ) → Step t → Step t' → t + t' ≡ p → (c y m : ℕ) → s ≤ c → c < s + p → c + t ≡ y → q < y → y < q + p → y + m ≡ q + p → Ahead o f m q y
-      lyndon_at t t' T T' tt' c y m l u e x h ym = go (X.least c l u (step-not t T q c y e x h))
+      lyndon_at t t' T T' tt' c y m l u e x h ym = go (X.least c l u (step_not t T q c y e x h))
         where
           go : Ahead o f p q c → Ahead o f m q y
           go Y = by (dec_lt Y.common m)
@@ -291,8 +291,8 @@ module _ (f : ℕ → ℕ) where
               by (no v) =
                   absurd (overtaken c q Y.common t' T' (λ i k. sym (Y.same i k)) Y.less u X.from X.to Y.short (omega arith) (omega arith))
 
-      pub least_start-lyndon : Lyndon o f p q
-      least_start-lyndon y l u = go (dec_lt y (s + p))
+      pub least_start_lyndon : Lyndon o f p q
+      least_start_lyndon y l u = go (dec_lt y (s + p))
         where
           go : Dec (y < s + p) → Ahead o f (q + p - y) q y
           go (yes v) = lyndon_at 0 p (inl refl) (inr refl) (omega arith) y y (q + p - y) (omega arith) v (omega arith) l u (omega arith)

@@ -23,8 +23,8 @@ right_end w b p e = rw (eq-eqb b (length w) e) refl
 pub right_test : (w : List ℕ) (b p : ℕ) → b ≢ length w → right? w b p ≡ not (eqb (get_or w b 0) (get_or w (b - p) 0))
 right_test w b p e = rw (ne_eqb b (length w) e) refl
 
-pub part-long : (w : List ℕ) (a b : ℕ) → b ≤ length w → length (part w a b) ≡ b - a
-part-long w a b h = (placed_part w a b h).long
+pub part_long : (w : List ℕ) (a b : ℕ) → b ≤ length w → length (part w a b) ≡ b - a
+part_long w a b h = (placed_part w a b h).long
 
 -- ---- one more boundary
 
@@ -35,9 +35,9 @@ rows_step w a b h = go (b - a - 1) (omega arith) (omega arith)
     go : (d : ℕ) → b - a ≡ suc d → a + suc d ≡ b → rows_at w a (b - a) ≡ rows_at w a d ++ run_between w a b
     go d e f = ap (rows_at w a) e ∙ ap (λ (x : ℕ). rows_at w a d ++ run_between w a x) f
 
-pub rows-skip : (w : List ℕ) (a b : ℕ) → a < b → run? w a b ≡ false → rows_at w a (b + 1 - a - 1) ≡ rows_at w a (b - a - 1)
+pub rows_skip : (w : List ℕ) (a b : ℕ) → a < b → run? w a b ≡ false → rows_at w a (b + 1 - a - 1) ≡ rows_at w a (b - a - 1)
 unfolding run_between
-rows-skip w a b h t =
+rows_skip w a b h t =
     let e : b + 1 - a - 1 ≡ b - a = omega arith in
     rw e (rows_step w a b h ∙ ap (λ (x : List Record). rows_at w a (b - a - 1) ++ x) (rw t refl) ∙ append-nil (rows_at w a (b - a - 1)))
 
@@ -49,11 +49,11 @@ rows-add w a b p q h u v t =
     rw e (rows_step w a b h ∙ ap (λ (x : List Record). rows_at w a (b - a - 1) ++ x) (rw (t, v, u, add-one a) refl))
 
 -- at most one run ends at each boundary
-pub rows-at_most : (w : List ℕ) (a d : ℕ) → length (rows_at w a d) ≤ d
+pub rows_at_most : (w : List ℕ) (a d : ℕ) → length (rows_at w a d) ≤ d
 unfolding rows_at run_between
-rows-at_most w a zero = omega arith
-rows-at_most w a (suc d) =
-    omega (arith, rows-at_most w a d, length-append (rows_at w a d) (run_between w a (a + suc d)), one (run? w a (a + suc d)))
+rows_at_most w a zero = omega arith
+rows_at_most w a (suc d) =
+    omega (arith, rows_at_most w a d, length-append (rows_at w a d) (run_between w a (a + suc d)), one (run? w a (a + suc d)))
   where
     one : (t : Bool) → length {A = Record} (cond t (record_of w a (a + suc d) ∷ []) []) ≤ 1
     one true = omega arith

@@ -26,13 +26,13 @@ module _ (s : List ℕ) (i : ℕ) (h : i < length s) where
   unfolding value_from
   value_low x l = rw (drop-cons s i 0 h) (simp (lt-ltb (get_or s i 0) zero_byte l))
 
-  pub value-high : (x : ℕ) → zero_byte + 9 < get_or s i 0 → value_from x (drop i s) ≡ x
+  pub value_high : (x : ℕ) → zero_byte + 9 < get_or s i 0 → value_from x (drop i s) ≡ x
   unfolding value_from
-  value-high x l = rw (drop-cons s i 0 h) (simp (le-ltb (get_or s i 0) zero_byte (omega arith), lt-ltb (zero_byte + 9) (get_or s i 0) l))
+  value_high x l = rw (drop-cons s i 0 h) (simp (le-ltb (get_or s i 0) zero_byte (omega arith), lt-ltb (zero_byte + 9) (get_or s i 0) l))
 
-  pub value-more : (x : ℕ) → zero_byte ≤ get_or s i 0 → get_or s i 0 ≤ zero_byte + 9 → value_from x (drop i s) ≡ value_from ((x * 10 + (get_or s i 0 - zero_byte)) % 4294967296) (drop (i + 1) s)
+  pub value_more : (x : ℕ) → zero_byte ≤ get_or s i 0 → get_or s i 0 ≤ zero_byte + 9 → value_from x (drop i s) ≡ value_from ((x * 10 + (get_or s i 0 - zero_byte)) % 4294967296) (drop (i + 1) s)
   unfolding value_from
-  value-more x l m = rw (drop-cons s i 0 h, add-one i) (simp (le-ltb (get_or s i 0) zero_byte l, le-ltb (zero_byte + 9) (get_or s i 0) m))
+  value_more x l m = rw (drop-cons s i 0 h, add-one i) (simp (le-ltb (get_or s i 0) zero_byte l, le-ltb (zero_byte + 9) (get_or s i 0) m))
 
   -- the numbers after commas
   pub values_here : get_or s i 0 ≡ comma → values_in (drop i s) ≡ value_from 0 (drop (i + 1) s) ∷ values_in (drop (i + 1) s)
@@ -48,15 +48,15 @@ module _ (s : List ℕ) (i : ℕ) (h : length s ≤ i) where
   unfolding from_byte
   byte_none b = rw (drop_of_length-le s {i = i} h)
 
-  pub value-done : (x : ℕ) → value_from x (drop i s) ≡ x
+  pub value_done : (x : ℕ) → value_from x (drop i s) ≡ x
   unfolding value_from
-  value-done x = rw (drop_of_length-le s {i = i} h)
+  value_done x = rw (drop_of_length-le s {i = i} h)
 
   pub values_none : values_in (drop i s) ≡ []
   unfolding values_in
   values_none = rw (drop_of_length-le s {i = i} h)
 
 -- nothing is stored past the end
-pub sets-out : (t : List ℕ) (k : ℕ) (vs : List ℕ) → length t ≤ k → sets t k vs ≡ t
-sets-out t k [] h = refl
-sets-out t k (v ∷ vs) h = sets-out (set t k v) (suc k) vs (omega (arith, length-set t k v)) ∙ set_out t k v h
+pub sets_out : (t : List ℕ) (k : ℕ) (vs : List ℕ) → length t ≤ k → sets t k vs ≡ t
+sets_out t k [] h = refl
+sets_out t k (v ∷ vs) h = sets_out (set t k v) (suc k) vs (omega (arith, length-set t k v)) ∙ set_out t k v h

@@ -12,8 +12,8 @@ use Rattle.slots.specs.Starts.{rank_in, preferred, slot_of, InRun, Readable, lea
 use Rattle.slots.specs.Ready.{kept_lead, best_with}
 
 -- of two starts within a bound the better one is
-preferred-bound : (key : ℕ → ℕ) (i k m : ℕ) → i ≤ m → k ≤ m → preferred key i k ≤ m
-preferred-bound key i k m x y = go (dec_lt (key i) (key k)) (dec_lt (key k) (key i))
+preferred_bound : (key : ℕ → ℕ) (i k m : ℕ) → i ≤ m → k ≤ m → preferred key i k ≤ m
+preferred_bound key i k m x y = go (dec_lt (key i) (key k)) (dec_lt (key k) (key i))
   where
     go : Dec (key i < key k) → Dec (key k < key i) → preferred key i k ≤ m
     go (yes a) b = rw (lt-ltb (key i) (key k) a) x
@@ -43,7 +43,7 @@ module _ (c : Choice) (n : ℕ) (t : List ℕ) (a two e : ℕ) where
           omega (
             arith,
             lead_long (omega arith) y (preferred (rank_in c t) (get_or t y 0) (e - two)) refl refl,
-            preferred-bound (rank_in c t) (get_or t y 0) (e - two) n (read (omega arith)) (omega arith),
+            preferred_bound (rank_in c t) (get_or t y 0) (e - two) n (read (omega arith)) (omega arith),
           )
 
   pub kept_short : e - a < two → t ≡ kept_lead c n t a two e

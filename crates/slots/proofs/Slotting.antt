@@ -15,7 +15,7 @@ use Rattle.runs.specs.Table.{runs_of, record_at}
 use Rattle.factors.specs.Factorization.{Choice}
 use Rattle.slots.specs.Starts.{rank_in, preferred, Top, Start, slot_of, Readable, lead_of}
 use Rattle.slots.specs.Ready.{start_of, two_of, Lead, list_row}
-use Rattle.slots.proofs.Tops.{preferred-same, lead_one, lead_next, lead_again}
+use Rattle.slots.proofs.Tops.{preferred_same, lead_one, lead_next, lead_again}
 use Rattle.slots.proofs.Collisions.{slot_early, slot_one_run, slots_differ}
 use Rattle.slots.proofs.Computed.{slot_bound}
 use Rattle.slots.proofs.Tabled.{Tabled, run_at, two_some}
@@ -94,7 +94,7 @@ module _ (c : Choice) (w runs : List ℕ) (R : Tabled w runs) (e : ℕ) (inside 
       readable l = omega (arith, slot_below l)
 
       chosen : (old : ℕ) → old < e → preferred (rank_in c u) old (e - two) ≡ preferred ever old (e - two)
-      chosen old l = preferred-same (rank_in c u) ever old (e - two) (in_table_final c w e inside u K old l) (in_table_final c w e inside u K (e - two) (omega (arith, two_some w runs R i h)))
+      chosen old l = preferred_same (rank_in c u) ever old (e - two) (in_table_final c w e inside u K old l) (in_table_final c w e inside u K (e - two) (omega (arith, two_some w runs R i h)))
 
       -- CLAIM: what is computed is the best start for e
       pub lead_is : a + two ≤ e → Lead c w runs i e (lead_of c n u a two e)

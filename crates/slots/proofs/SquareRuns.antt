@@ -7,8 +7,8 @@ use native.Mathlib.Omega.{arith}
 use lib.ListN.{length}
 use Rattle.periods.specs.Period.{part, SmallestPeriod, smallest_period}
 use Rattle.periods.specs.Square.{Square}
-use Rattle.periods.proofs.InPlace.{symbol, placed_part, part-smallest_out}
-use Rattle.periods.proofs.Claims.{smallest_period-is}
+use Rattle.periods.proofs.InPlace.{symbol, placed_part, part_smallest_out}
+use Rattle.periods.proofs.Claims.{smallest_period_is}
 use Rattle.periods.proofs.Squares.{square_filled, unit_square, square_unit}
 use Rattle.runs.specs.Run.{Run}
 use Rattle.runs.proofs.InPlace.{piece_smallest, run_in, OneRun, one_run}
@@ -22,7 +22,7 @@ module _ (w : List ℕ) where
       let two : 2 * p ≤ e - j = multiple_least (e - j) (2 * p) (omega arith) m in
       let inside : e ≤ length w = omega (arith, R.ends) in
       let S : SmallestPeriod (part w j e) p =
-      part-smallest_out w j e p inside
+      part_smallest_out w j e p inside
       (piece_smallest (symbol w) (length w) (first - 1) last j e p (run_in w first last p R) (omega arith) b (omega arith)) in
       (inside, unit_square (part w j e) p S (ap (λ (x : ℕ). x % (2 * p)) (placed_part w j e inside).long ∙ m))
 
@@ -37,7 +37,7 @@ module _ (w : List ℕ) where
   square_run j e (h, S) =
       let s = part w j e in
       let l : length s ≡ e - j = (placed_part w j e h).long in
-      let U : SmallestPeriod s (smallest_period s) = smallest_period-is s (square_filled s S) in
+      let U : SmallestPeriod s (smallest_period s) = smallest_period_is s (square_filled s S) in
       let m : length s % (2 * smallest_period s) ≡ 0 = square_unit s (smallest_period s) U S in
       record {
         unit = smallest_period s;

@@ -16,15 +16,15 @@ use Rattle.periods.specs.Square.{Square, square?}
 use Rattle.runs.specs.Table.{runs_of, record_at}
 use Rattle.factors.specs.Factorization.{Choice, unreachable, reached}
 use Rattle.factors.specs.Table.{none, rows, size_in, Holds, offered}
-use Rattle.factors.proofs.Optimal.{size-bound}
-use Rattle.factors.proofs.TableLaws.{holds_reached, offered-cell, offered-other, offered-others}
+use Rattle.factors.proofs.Optimal.{size_bound}
+use Rattle.factors.proofs.TableLaws.{holds_reached, offered-cell, offered_other, offered_others}
 use Rattle.factorizer.specs.Piece.{piece?}
 use Rattle.factorizer.proofs.Pieces.{piece_sound, piece_complete}
 use Rattle.factorizer.proofs.Rules.{square_decides}
 use Rattle.slots.specs.Starts.{rank, Start}
 use Rattle.slots.specs.Ready.{start_of, two_of, square_cell, known_cell, Lead, list_row, Ready}
 use Rattle.slots.proofs.SquareRuns.{run_square, SquareRun, square_run}
-use Rattle.slots.proofs.Cells.{rank-none, rank-worst, top_unreachable, top_reached}
+use Rattle.slots.proofs.Cells.{rank-none, rank_worst, top_unreachable, top_reached}
 use Rattle.slots.proofs.Tabled.{Tabled}
 use Rattle.slots.proofs.Turn.{entry_of, place_of, Holding, Seen, known_rank, Turn}
 use Rattle.slots.proofs.Known.{known_below, known_here, known_final}
@@ -81,17 +81,17 @@ module _ (c : Choice) (w runs : List ℕ) (R : Tabled w runs) (short : length w 
   -- ---- the cell of e
 
   module _ (u : List ℕ) (kept best : ℕ) (U : Turn c w runs e lives t u lives kept lives best) (high : best ≤ e) where
-    rank-read : rank c (get_or u best 0) ≡ known_rank c w e best
-    rank-read = ap (rank c) (U.knows.known best (omega arith)).size
+    rank_read : rank c (get_or u best 0) ≡ known_rank c w e best
+    rank_read = ap (rank c) (U.knows.known best (omega arith)).size
 
     bounded : (j s p : ℕ) → j < e → square_cell c w j ≡ reached s p → s < none
-    bounded j s p h z = omega (arith, size-bound c b j s p z)
+    bounded j s p h z = omega (arith, size_bound c b j s p z)
 
     -- none of the starts is reached
     cell-none : get_or u best 0 ≡ none → square_cell c w e ≡ unreachable
     cell-none z = top_unreachable c b e (omega arith) (omega arith) λ j h B.
-        rank-worst c (square_cell c w j) (λ s p f. bounded j s p h f)
-        (omega (arith, rank-read, ap (rank c) z, rank-none c, U.top.least j (square_seen j h B), known_final c w e j h))
+        rank_worst c (square_cell c w j) (λ s p f. bounded j s p h f)
+        (omega (arith, rank_read, ap (rank c) z, rank-none c, U.top.least j (square_seen j h B), known_final c w e j h))
 
     -- the best start is reached
     module _ (ne : get_or u best 0 ≡ none → ⊥) where
@@ -108,11 +108,11 @@ module _ (c : Choice) (w runs : List ℕ) (R : Tabled w runs) (short : length w 
           let q = holds_reached u best (n + 1 + best) (known_cell c w e best) (U.knows.known best (omega arith)) ne in
           (q.0, sym (known_below c w e best start.0) ∙ q.1)
 
-      cell-reached : square_cell c w e ≡ reached (suc (get_or u best 0)) best
-      cell-reached =
+      cell_reached : square_cell c w e ≡ reached (suc (get_or u best 0)) best
+      cell_reached =
           top_reached c b e (omega arith) (omega arith) best (get_or u best 0) from.0 start.0 start.1 from.1
-          (λ j h B. omega (arith, rank-read, U.top.least j (square_seen j h B), known_final c w e j h))
-          (λ j h B l. U.top.lowest j (square_seen j h B) (omega (arith, rank-read, known_final c w e j h)))
+          (λ j h B. omega (arith, rank_read, U.top.least j (square_seen j h B), known_final c w e j h))
+          (λ j h B l. U.top.lowest j (square_seen j h B) (omega (arith, rank_read, known_final c w e j h)))
 
     -- ---- the next boundary
 
@@ -176,10 +176,10 @@ module _ (c : Choice) (w runs : List ℕ) (R : Tabled w runs) (short : length w 
     taken_reached room ne x is = next_ready x same knows
       where
         same : (y : ℕ) → n + 1 + (n + 1) ≤ y → get_or x y 0 ≡ get_or u y 0
-        same y h = ap (λ (z : List ℕ). get_or z y 0) is ∙ offered-other c e (n + 1 + e) (get_or u best 0 + 1) best u y (omega arith) (omega arith)
+        same y h = ap (λ (z : List ℕ). get_or z y 0) is ∙ offered_other c e (n + 1 + e) (get_or u best 0 + 1) best u y (omega arith) (omega arith)
 
         size_small : suc (get_or u best 0) < none
-        size_small = omega (arith, size-bound c b best (get_or u best 0) (from ne).0 (from ne).1, (start ne).0)
+        size_small = omega (arith, size_bound c b best (get_or u best 0) (from ne).0 (from ne).1, (start ne).0)
 
         knows : (m : ℕ) → m ≤ n → Holds x m (n + 1 + m) (known_cell c w (suc e) m)
         knows m h = go (ℕ_discrete m e)
@@ -187,8 +187,8 @@ module _ (c : Choice) (w runs : List ℕ) (R : Tabled w runs) (short : length w 
             go : Dec (m ≡ e) → Holds x m (n + 1 + m) (known_cell c w (suc e) m)
             go (no f) =
                 rw is (subst (Holds (offered c e (n + 1 + e) (get_or u best 0 + 1) best u) m (n + 1 + m)) (known_next m f)
-                (offered-others c e (n + 1 + e) (get_or u best 0 + 1) best u m (n + 1 + m) (known_cell c w e m) f (omega arith) (omega arith) (omega arith) (U.knows.known m h)))
+                (offered_others c e (n + 1 + e) (get_or u best 0 + 1) best u m (n + 1 + m) (known_cell c w e m) f (omega arith) (omega arith) (omega arith) (U.knows.known m h)))
             go (yes f) =
-                rw (f, is, add-one (get_or u best 0)) (subst (Holds (offered c e (n + 1 + e) (suc (get_or u best 0)) best u) e (n + 1 + e)) (sym (known_taken ∙ cell-reached ne))
+                rw (f, is, add-one (get_or u best 0)) (subst (Holds (offered c e (n + 1 + e) (suc (get_or u best 0)) best u) e (n + 1 + e)) (sym (known_taken ∙ cell_reached ne))
                 (offered-cell c e (n + 1 + e) (get_or u best 0) best u (from ne).0 unreachable (omega arith) (omega (arith, U.rest.0)) (omega (arith, U.rest.0)) size_small
                 (subst (Holds u e (n + 1 + e)) (known_here c w e) (U.knows.known e inside))))

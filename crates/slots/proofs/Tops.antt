@@ -20,19 +20,19 @@ multiple_least x s h e = go (dec_lt x s)
 -- ---- the best of some starts
 
 -- keys that agree on the two starts prefer the same one
-pub preferred-same : (key other : ℕ → ℕ) (i k : ℕ) → key i ≡ other i → key k ≡ other k → preferred key i k ≡ preferred other i k
-preferred-same key other i k e f = rw (e, f) refl
+pub preferred_same : (key other : ℕ → ℕ) (i k : ℕ) → key i ≡ other i → key k ≡ other k → preferred key i k ≡ preferred other i k
+preferred_same key other i k e f = rw (e, f) refl
 
 -- as the numbers a and b of the two tell
 module _ (key : ℕ → ℕ) (i k a b : ℕ) (is : a ≡ key i) (other : b ≡ key k) where
-  pub preferred-first : a < b → i ≡ preferred key i k
-  preferred-first h = rw (lt-ltb (key i) (key k) (omega arith)) refl
+  pub preferred_first : a < b → i ≡ preferred key i k
+  preferred_first h = rw (lt-ltb (key i) (key k) (omega arith)) refl
 
-  pub preferred-second : b ≤ a → b < a → k ≡ preferred key i k
-  preferred-second g h = rw (le-ltb (key i) (key k) (omega arith), lt-ltb (key k) (key i) (omega arith)) refl
+  pub preferred_second : b ≤ a → b < a → k ≡ preferred key i k
+  preferred_second g h = rw (le-ltb (key i) (key k) (omega arith), lt-ltb (key k) (key i) (omega arith)) refl
 
-  pub preferred-lower : b ≤ a → a ≤ b → (x : ℕ) → x ≡ min i k → x ≡ preferred key i k
-  preferred-lower g h x e = rw (le-ltb (key i) (key k) (omega arith), le-ltb (key k) (key i) (omega arith)) e
+  pub preferred_lower : b ≤ a → a ≤ b → (x : ℕ) → x ≡ min i k → x ≡ preferred key i k
+  preferred_lower g h x e = rw (le-ltb (key i) (key k) (omega arith), le-ltb (key k) (key i) (omega arith)) e
 
 pub top_one : (key : ℕ → ℕ) (i : ℕ) → Top key (λ j. j ≡ i) i
 top_one key i = record { member = refl; least = λ j e. let f : key j ≡ key i = ap key e in omega arith; lowest = λ j e h. omega arith }

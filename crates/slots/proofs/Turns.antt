@@ -1,4 +1,4 @@
--- Taking boundary e, run by run (`Turn` of proofs/Turn.antt): a run that is over leaves the list (`step-over`), another stays in it, has its best start written to its
+-- Taking boundary e, run by run (`Turn` of proofs/Turn.antt): a run that is over leaves the list (`step_over`), another stays in it, has its best start written to its
 -- slot and compared with the best so far (`step-take`). When all runs were taken the best start gives the cell of e, since the starts that were seen are those of
 -- all squares that end there; and what holds between two boundaries holds again (`turn-ends`). Assumes nothing.
 use mathlib.Core.Path.{◌≡◌, refl, sym, ap, ◌∙◌, subst}
@@ -19,7 +19,7 @@ use Rattle.factors.specs.Table.{rows, size_in, taken, offered}
 use Rattle.factorizer.specs.Window.{RestKept}
 use Rattle.slots.specs.Starts.{rank, rank_in, preferred, Top, Start, Readable, lead_of}
 use Rattle.slots.specs.Ready.{start_of, two_of, square_cell, list_row, Ready, kept_lead, best_with}
-use Rattle.slots.proofs.Tops.{multiple_least, preferred-same, top_one, top_same, top_agree, top_both}
+use Rattle.slots.proofs.Tops.{multiple_least, preferred_same, top_one, top_same, top_agree, top_both}
 use Rattle.slots.proofs.Tabled.{Tabled, run_at}
 use Rattle.slots.proofs.Computed.{slot_bound, kept_short, kept_long}
 use Rattle.slots.proofs.Turn.{entry_of, place_of, Holding, Knows, Slotting, Listing, Seen, known_rank, Turn, Numbers}
@@ -204,7 +204,7 @@ module _ (c : Choice) (w runs : List ℕ) (R : Tabled w runs) (e : ℕ) (some : 
           go (yes x) = rw (lt-ltb (e - a) two x) (top_same (known_rank c w e) (Seen w runs e t k) (Seen w runs e t (suc k)) best (λ j s. inl s) (none_there x) U.top)
           go (no x) =
               let q : preferred (rank_in c v) best (lead_of c n v a two e) ≡ preferred (known_rank c w e) best (lead_of c n v a two e) =
-              preferred-same (rank_in c v) (known_rank c w e) best (lead_of c n v a two e) (in_table c w e v knows best (omega (arith, best_bound u k kept k best U)))
+              preferred_same (rank_in c v) (known_rank c w e) best (lead_of c n v a two e) (in_table c w e v knows best (omega (arith, best_bound u k kept k best U)))
               (in_table c w e v knows (lead_of c n v a two e) (omega (arith, below (omega (arith, begun))))) in
               rw (le-ltb (e - a) two (omega arith), q)
               (top_same (known_rank c w e) (λ j. Seen w runs e t k j ⊎ Start a two e j) (Seen w runs e t (suc k)) (preferred (known_rank c w e) best (lead_of c n v a two e)) to of
@@ -243,8 +243,8 @@ module _ (c : Choice) (w runs : List ℕ) (R : Tabled w runs) (e : ℕ) (some : 
               }
 
     -- CLAIM: the steps, by what is read from the table of runs
-    pub step-over : (r : Record) → r ≡ record_at runs (get_or u (list_row n + k) 0) → r.last < e → Turn c w runs e lives t u (k + 1) kept (k + 1) best
-    step-over r is l = rw (add-one k) (over (subst (λ (i : ℕ). last i < e) at_hand (subst (λ (x : Record). x.last < e) is l)))
+    pub step_over : (r : Record) → r ≡ record_at runs (get_or u (list_row n + k) 0) → r.last < e → Turn c w runs e lives t u (k + 1) kept (k + 1) best
+    step_over r is l = rw (add-one k) (over (subst (λ (i : ℕ). last i < e) at_hand (subst (λ (x : Record). x.last < e) is l)))
 
     pub step-take : (r : Record) → r ≡ record_at runs (get_or u (list_row n + k) 0) → e ≤ r.last
         → (x : List ℕ) (b : ℕ) → x ≡ kept_lead c n (set u (list_row n + kept) (get_or u (list_row n + k) 0)) (r.first - 1) (2 * r.period) e
@@ -254,9 +254,9 @@ module _ (c : Choice) (w runs : List ℕ) (R : Tabled w runs) (e : ℕ) (some : 
         let i : r ≡ record_at runs (live k) = is ∙ ap (record_at runs) at_hand in
         rw (add-one k, add-one kept, p, q, i, at_hand) (with_run (subst (λ (y : Record). e ≤ y.last) i l))
 
-    pub step-reads : (r : Record) → r ≡ record_at runs (get_or u (list_row n + k) 0) → e ≤ r.last
+    pub step_reads : (r : Record) → r ≡ record_at runs (get_or u (list_row n + k) 0) → e ≤ r.last
         → Readable n (set u (list_row n + kept) (get_or u (list_row n + k) 0)) (r.first - 1) (2 * r.period) e
-    step-reads r is l =
+    step_reads r is l =
         let i : r ≡ record_at runs (live k) = is ∙ ap (record_at runs) at_hand in
         rw (i, at_hand) (reads (subst (λ (y : Record). e ≤ y.last) i l))
 

@@ -16,7 +16,7 @@ use Rattle.periods.proofs.InPlace.{placed_part}
 use Rattle.periods.proofs.Squares.{square_even, square_repeats}
 use Rattle.factors.specs.Factorization.{Factorization, size, Choice, cell, best_ends}
 use Rattle.factors.specs.Table.{none, size_in}
-use Rattle.factors.proofs.Chains.{chain_map, size-half}
+use Rattle.factors.proofs.Chains.{chain_map, size_half}
 use Rattle.factors.proofs.Optimal.{Answers}
 use Rattle.factorizer.specs.Piece.{Piece, piece?}
 use Rattle.factorizer.specs.Best.{Reported}
@@ -41,7 +41,7 @@ pub squares_repetitions : (w : List ℕ) (m : ℕ) (es : List ℕ) → Factoriza
 squares_repetitions w m es = chain_map (Piece Square w) (Piece (Repetition any_period twice) w) (λ i j K. (K.0, square_repeats (part w i j) K.1)) 0 es m
 
 pub squares_half : (w : List ℕ) (m : ℕ) (es : List ℕ) → Factorization (Piece Square w) m es → size es ≤ m / 2
-squares_half w = size-half (Piece Square w) long
+squares_half w = size_half (Piece Square w) long
   where
     long : (i j : ℕ) → Piece Square w i j → i + 2 ≤ j
     long i j K = omega (arith, (placed_part w i j K.0).long, square_even (part w i j) K.1, K.1.filled)

@@ -8,7 +8,7 @@ use lib.ListN.{length, length-append}
 use Rattle.periods.specs.Period.{part}
 use Rattle.periods.specs.Square.{power, Primitive, Square, PrimitiveSquare}
 use Rattle.periods.proofs.InPlace.{placed_part, part_cut}
-use Rattle.periods.proofs.Squares.{square_filled, power-empty, power-twice}
+use Rattle.periods.proofs.Squares.{square_filled, power_empty, power-twice}
 use Rattle.factors.specs.Factorization.{Chain, Factorization, size, most, largest, Best}
 use Rattle.answers.specs.Outcome.{accepted, refused}
 use Rattle.answers.proofs.Claims.{refused_accepted}
@@ -28,16 +28,16 @@ pieces_length l (suc k) e es = pieces_length l k (e - l) (e ∷ es) ∙ omega ar
 
 -- a part that is a power of x x is so many squares; from its last one back
 module _ (w x : List ℕ) (filled : 0 < length x) (i m : ℕ) where
-  power-squares : (k e : ℕ) (es : List ℕ) → i ≤ e → e ≤ length w → part w i e ≡ power k (x ++ x) → Chain (Piece Square w) e es m
+  power_squares : (k e : ℕ) (es : List ℕ) → i ≤ e → e ≤ length w → part w i e ≡ power k (x ++ x) → Chain (Piece Square w) e es m
       → Chain (Piece Square w) i (pieces (length (x ++ x)) k e es) m
-  power-squares zero e es h b p c =
+  power_squares zero e es h b p c =
       let z : e ≡ i = omega (arith, (placed_part w i e b).long, ap length p) in
       subst (λ (y : ℕ). Chain (Piece Square w) y es m) z c
-  power-squares (suc k) e es h b p c =
+  power_squares (suc k) e es h b p c =
       let y = x ++ x in
       let long : length (power k y) + length y ≡ e - i = omega (arith, length-append (power k y) y, ap length p, (placed_part w i e b).long) in
       let q = part_cut w (power k y) y i (e - length y) e (omega arith) (omega arith) b (omega arith) p in
-      power-squares k (e - length y) (e ∷ es) (omega arith) (omega arith) q.0 ((b, record { half = x; filled = filled; twice_over = q.1 }), c)
+      power_squares k (e - length y) (e ∷ es) (omega arith) (omega arith) q.0 ((b, record { half = x; filled = filled; twice_over = q.1 }), c)
 
 -- from any boundary
 refined : (w : List ℕ) (i : ℕ) (es : List ℕ) (m : ℕ) → Chain (Piece Square w) i es m → ((fs : List ℕ) → Chain (Piece Square w) i fs m → length fs ≤ length es)
@@ -52,12 +52,12 @@ refined w i (e ∷ es) m c None-more = (
     up = omega (arith, (placed_part w i e c.0.0).long, square_filled (part w i e) c.0.1)
 
     primitive : Primitive c.0.1.half
-    primitive [] k two p = omega (arith, c.0.1.filled, ap length (p ∙ power-empty k))
+    primitive [] k two p = omega (arith, c.0.1.filled, ap length (p ∙ power_empty k))
     primitive (y ∷ ys) k two p =
         let x = y ∷ ys in
         let l = length (x ++ x) in
         let q = c.0.1.twice_over ∙ ap (λ (z : List ℕ). z ++ z) p ∙ power-twice k x in
-        omega (arith, None-more (pieces l k e es) (power-squares w x (omega arith) i m k e es up c.0.0 q c.1), pieces_length l k e es)
+        omega (arith, None-more (pieces l k e es) (power_squares w x (omega arith) i m k e es up c.0.0 q c.1), pieces_length l k e es)
 
 -- CLAIM: a factorization into squares that no other exceeds in size has only squares with a primitive half
 pub most_primitive : (w : List ℕ) (m : ℕ) (es : List ℕ) → Factorization (Piece Square w) m es

@@ -88,10 +88,10 @@ digits-front t d k x h f =
     let e : k - 0 ≡ k = omega arith in
     rw (e, f, sets-front t (digits k x) (omega (arith, digits-length k x))) (take_at (digits k x) (drop (length (digits k x)) t) k (digits-length k x))
 
-pub line-is : (name xs : List ℕ) → line name xs ≡ name ++ (fields_of xs ++ (line_end ∷ []))
+pub line_is : (name xs : List ℕ) → line name xs ≡ name ++ (fields_of xs ++ (line_end ∷ []))
 unfolding line
-line-is name xs = refl
+line_is name xs = refl
 
-pub line-long : (name xs : List ℕ) → length (line name xs) ≤ length name + 11 * length xs + 1
-line-long name xs =
-    omega (arith, ap length (line-is name xs), fields_long comma xs, length-append name (fields_of xs ++ (line_end ∷ [])), length-append (fields_of xs) (line_end ∷ []))
+pub line_long : (name xs : List ℕ) → length (line name xs) ≤ length name + 11 * length xs + 1
+line_long name xs =
+    omega (arith, ap length (line_is name xs), fields_long comma xs, length-append name (fields_of xs ++ (line_end ∷ [])), length-append (fields_of xs) (line_end ∷ []))

@@ -7,7 +7,7 @@ use native.Mathlib.Omega.{arith}
 use lib.ListN.{length, take, drop}
 use lib.Seq.{take_at, length-take-le}
 use Rattle.bench.specs.Line.{line_length}
-use Rattle.bench.proofs.Lines.{part-read, line-ended, line-goes_on}
+use Rattle.bench.proofs.Lines.{part_read, line_ended, line-goes_on}
 use Rattle.bench.proofs.read_line.Goals as goal
 
 -- the buffer after a read into its places from h on
@@ -27,11 +27,11 @@ returns-then-place-have g c =
     let l = c.loop-have in
     let n = length c.args.buf.now in
     let b = after l.buf c.read.new.buf l.have n in
-    let long : length b ≡ n = part-read l.buf c.read.new.buf l.have n l.invariant.0 (omega (arith, l.invariant.1)) c.read.auto.buf ∙ l.invariant.1 in
+    let long : length b ≡ n = part_read l.buf c.read.new.buf l.have n l.invariant.0 (omega (arith, l.invariant.1)) c.read.auto.buf ∙ l.invariant.1 in
     let k = kept l.buf c.read.new.buf l.have n (omega (arith, l.invariant.1)) l.invariant.2 in
     let m : l.have + c.in-Ok.more ≤ n = omega (arith, c.in-Ok.ensures.bound, c.read.auto.buf) in (
       omega (arith, m, long),
-      line-ended b l.have (l.have + c.in-Ok.more) c.line_length.result (omega arith) (omega (arith, m, long)) k c.line_length.ensures.value c.if-place-have.true,
+      line_ended b l.have (l.have + c.in-Ok.more) c.line_length.result (omega arith) (omega (arith, m, long)) k c.line_length.ensures.value c.if-place-have.true,
     )
 
 pub loop-have-preserved : goal.loop-have-preserved
@@ -39,7 +39,7 @@ loop-have-preserved g c =
     let l = c.loop-have in
     let n = length c.args.buf.now in
     let b = after l.buf c.read.new.buf l.have n in
-    let long : length b ≡ n = part-read l.buf c.read.new.buf l.have n l.invariant.0 (omega (arith, l.invariant.1)) c.read.auto.buf ∙ l.invariant.1 in
+    let long : length b ≡ n = part_read l.buf c.read.new.buf l.have n l.invariant.0 (omega (arith, l.invariant.1)) c.read.auto.buf ∙ l.invariant.1 in
     let k = kept l.buf c.read.new.buf l.have n (omega (arith, l.invariant.1)) l.invariant.2 in
     let m : l.have + c.in-Ok.more ≤ n = omega (arith, c.in-Ok.ensures.bound, c.read.auto.buf) in (
       m,

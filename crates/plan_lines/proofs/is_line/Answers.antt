@@ -4,7 +4,7 @@ use Prim.Native.Nat.{ℕ}
 use native.Mathlib.Omega.{arith}
 use lib.Dec.{T}
 use Rattle.plan_lines.specs.Line.{bytes_for, place_of_length, number_at, field?, ends?, needless?}
-use Rattle.plan_lines.proofs.LineClaims.{needless_not, first_field, not_line, line-by_last}
+use Rattle.plan_lines.proofs.LineClaims.{needless_not, first_field, not_line, line_by_last}
 use Rattle.plan_lines.proofs.is_line.Goals as goal
 
 pub returns-then-len-bytes_for : goal.returns-then-len-bytes_for
@@ -59,7 +59,7 @@ returns c =
     let tested = c.needless.ensures ∙ ap (needless? c.args.long) c.number.ensures in
     let stands = c.field_at-2.ensures ∙ ap (field? w.result s) c.count_place-count_at.ensures in
     let counted = c.number-count.ensures ∙ ap (number_at w.result s) c.count_place-count_at.ensures in
-    line-by_last c.args.long s w.result w.ensures
+    line_by_last c.args.long s w.result w.ensures
     (subst T (sym c.if-not-begins.false ∙ c.begins.ensures) tt)
     (subst T (sym c.if-not-field_at.false ∙ c.field_at.ensures) tt)
     (sym tested ∙ c.if-needless.false)

@@ -12,9 +12,9 @@ use Rattle.answers.specs.Outcome.{Outcome, accepted}
 use Rattle.decimals.specs.Decimal.{digits?, field}
 use Rattle.plan_lines.specs.Line.{width_of, widest, line?, number_at, place_of_length, place_of_count, bytes_for, ends?, ends_in}
 use Rattle.plan_lines.proofs.Loops.{width_bound, field-digits, ends_length}
-use Rattle.plan_lines.proofs.LineClaims.{Parts, line-parts}
+use Rattle.plan_lines.proofs.LineClaims.{Parts, line_parts}
 use Rattle.plans.specs.Calls.{limit_of, plausible}
-use Rattle.plans.proofs.Judged.{limit-bound}
+use Rattle.plans.proofs.Judged.{limit_bound}
 use Rattle.plans.proofs.CallClaims.{judge_counts, read_no_line, read_refused, read_too_few, read_plan, read_answered}
 use Rattle.plans.proofs.read_plan.Goals as goal
 
@@ -36,7 +36,7 @@ a_line : (long t : Bool) (s : List ℕ) → t ≡ line? long s → t ≡ true �
 a_line long t s e y = subst T (sym y ∙ e) tt
 
 parts : (long : Bool) (s : List ℕ) (d : ℕ) → d ≡ width_of long → T (line? long s) → Parts long d s
-parts long s d e l = subst (λ (w : ℕ). Parts long w s) (sym e) (line-parts long s l)
+parts long s d e l = subst (λ (w : ℕ). Parts long w s) (sym e) (line_parts long s l)
 
 -- the count, where its place was computed
 stated : (d : ℕ) (s : List ℕ) (at k : ℕ) → at ≡ place_of_count d → k ≡ number_at d s at → k ≡ number_at d s (place_of_count d)
@@ -93,7 +93,7 @@ judge_line-requires c =
       subst (λ (j : ℕ). bytes_for w.result j ≤ length s) (sym k) (omega (arith, P.sized)),
       narrow long w.result w.ensures,
       subst (λ (j : ℕ). T (ends? w.result s j)) (sym k) P.ends,
-      omega (arith, c.limit_of-most.ensures, limit-bound long),
+      omega (arith, c.limit_of-most.ensures, limit_bound long),
     )
 
 pub returns-then-table-k : goal.returns-then-table-k

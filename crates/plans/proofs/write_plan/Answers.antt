@@ -11,10 +11,10 @@ use Rattle.laws.proofs.Stores.{sets-front}
 use Rattle.answers.specs.declared.Counted.TheVariants.{Count}
 use Rattle.answers.specs.Outcome.{accepted, limit}
 use Rattle.plan_lines.specs.Line.{width_of, widest, needs_long, line, plan_line, Small, bytes_for}
-use Rattle.plan_lines.proofs.Loops.{width_bound, step-bound}
+use Rattle.plan_lines.proofs.Loops.{width_bound, step_bound}
 use Rattle.plan_lines.proofs.LineClaims.{length-line}
 use Rattle.plans.specs.Calls.{plausible}
-use Rattle.plans.proofs.CallClaims.{plausible-low, plausible-length, plausible-line, judge_counts, write_refused, write_too_few, write_written, write_answered}
+use Rattle.plans.proofs.CallClaims.{plausible_low, plausible-length, plausible-line, judge_counts, write_refused, write_too_few, write_written, write_answered}
 use Rattle.plans.proofs.write_plan.Goals as goal
 
 -- n and ends that are not refused: the ends are counted, and a line of them has fewer bytes than 2 ^ 32
@@ -23,7 +23,7 @@ module _ (n : ℕ) (ends : List ℕ) (k : ℕ) (said : accepted (k ∷ []) ≡ p
   judged = judge_counts limit n ends (Count k) k said refl
 
   few : length ends ≤ limit
-  few = omega (arith, plausible-low limit n ends _ judged.0, plausible-length limit n ends _ judged.0)
+  few = omega (arith, plausible_low limit n ends _ judged.0, plausible-length limit n ends _ judged.0)
 
   module _ (long : Bool) (d : ℕ) (kind : long ≡ needs_long n) (wide : d ≡ width_of long) where
     -- the digits are those of the kind of line that n has
@@ -33,7 +33,7 @@ module _ (n : ℕ) (ends : List ℕ) (k : ℕ) (said : accepted (k ∷ []) ≡ p
     bounded : bytes_for d k < 2 ^ 32
     bounded =
         let h : d ≤ widest = omega (arith, wide, width_bound long) in
-        omega (arith, h, step-bound d k h, judged.1, few)
+        omega (arith, h, step_bound d k h, judged.1, few)
 
     -- the line has the bytes that are computed
     long_enough : (b : ℕ) → b ≡ bytes_for d k → length (plan_line n ends) ≡ b

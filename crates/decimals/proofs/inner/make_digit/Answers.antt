@@ -3,11 +3,11 @@
 use mathlib.Core.Path.{sym, subst}
 use Prim.Native.Nat.{ℕ, ◌≤◌}
 use native.Mathlib.Omega.{arith}
-use Rattle.decimals.proofs.Loops.{power-positive, made_quotient, made_more}
+use Rattle.decimals.proofs.Loops.{power_positive, made_quotient, made_more}
 use Rattle.decimals.proofs.inner.make_digit.Goals as goal
 
 pub nonzero_div-made : goal.nonzero_div-made
-nonzero_div-made c = subst (λ (p : ℕ). 1 ≤ p) (sym c.power.ensures) (power-positive _)
+nonzero_div-made c = subst (λ (p : ℕ). 1 ≤ p) (sym c.power.ensures) (power_positive _)
 
 pub returns-clause-reads : goal.returns-clause-reads
 returns-clause-reads c =

@@ -5,10 +5,10 @@ use Prim.Native.Nat.{ℕ}
 use lib.Dec.{eqb}
 use Rattle.periods.specs.Period.{part}
 use Rattle.periods.specs.Width.{word_of}
-use Rattle.periods.proofs.BlockUnit.{block_unit-tells}
+use Rattle.periods.proofs.BlockUnit.{block_unit_tells}
 use Rattle.factorizer.proofs.inner.is_block.Goals as goal
 
 pub returns : goal.returns
 returns c =
     let g = c.args in
-    rw c.if-rule.false (ap (λ (u : ℕ). not (eqb u 0)) c.block_unit.ensures ∙ block_unit-tells g.rule.turns (part (word_of g.wide g.bytes.now g.codes.now) g.start g.end))
+    rw c.if-rule.false (ap (λ (u : ℕ). not (eqb u 0)) c.block_unit.ensures ∙ block_unit_tells g.rule.turns (part (word_of g.wide g.bytes.now g.codes.now) g.start g.end))

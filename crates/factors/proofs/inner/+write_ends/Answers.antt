@@ -2,7 +2,7 @@
 -- The boundary falls at each call. Assumes nothing.
 use mathlib.Core.Path.{◌≡◌, ◌∙◌}
 use native.Mathlib.Omega.{arith}
-use Rattle.factors.proofs.TableLaws.{linked_zero, linked_step, ends_back-zero, ends_back-more}
+use Rattle.factors.proofs.TableLaws.{linked_zero, linked_step, ends_back-zero, ends_back_more}
 use Rattle.factors.proofs.inner.+write_ends.Goals as goal
 
 pub returns-then-j-eq0 : goal.returns-then-j-eq0
@@ -11,4 +11,4 @@ returns-then-j-eq0 t c =
     rw (z, ends_back-zero)
 
 pub returns : goal.returns
-returns t c = c.write_ends.ensures ∙ ends_back-more _ _ _ _ (linked_step _ _ _ c.if-j-eq0.false c.requires.0).some (omega arith)
+returns t c = c.write_ends.ensures ∙ ends_back_more _ _ _ _ (linked_step _ _ _ c.if-j-eq0.false c.requires.0).some (omega arith)

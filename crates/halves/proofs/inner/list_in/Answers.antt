@@ -9,7 +9,7 @@ use lib.Seq.{sets}
 use Rattle.answers.specs.Outcome.{limit}
 use Rattle.runs.specs.Table.{runs_of}
 use Rattle.runs.specs.Listing.{stride_of, flat_by}
-use Rattle.runs.proofs.Listings.{stride-small}
+use Rattle.runs.proofs.Listings.{stride_small}
 use Rattle.halves.proofs.Records.{runs_small, listed_few, listed_all}
 use Rattle.halves.proofs.inner.list_in.Goals as goal
 
@@ -18,7 +18,7 @@ overflow_mul-stride c =
     let g = c.args in
     let k = c.count-total in
     let few : k.result ≤ limit = omega (arith, k.ensures.value, runs_small g.w.now (omega arith)) in
-    omega (arith, few, mul-le-mul_right k.result (stride-small g.listing), ap (λ (x : ℕ). x * k.result) c.stride.ensures)
+    omega (arith, few, mul-le-mul_right k.result (stride_small g.listing), ap (λ (x : ℕ). x * k.result) c.stride.ensures)
 
 pub returns-then-table-stride-clause-table_after : goal.returns-then-table-stride-clause-table_after
 returns-then-table-stride-clause-table_after c =

@@ -2,7 +2,7 @@
 use Prim.Native.Nat.{◌-◌}
 use native.Mathlib.Omega.{arith}
 use Rattle.page_lines.proofs.Columns.{start_unit}
-use Rattle.page_lines.proofs.LineClaims.{shown_fit, line-stored}
+use Rattle.page_lines.proofs.LineClaims.{shown_fit, line_stored}
 use Rattle.page_lines.proofs.inner.put_line.Goals as goal
 
 pub overflow_add-at : goal.overflow_add-at
@@ -18,5 +18,5 @@ put_symbols-requires c =
 pub returns : goal.returns
 returns c =
     let g = c.args in
-    line-stored g.form c.requires.2 g.out.now _ _ g.numbers.now g.unit.now g.at _ _ _ c.requires.1
+    line_stored g.form c.requires.2 g.out.now _ _ g.numbers.now g.unit.now g.at _ _ _ c.requires.1
     c.put_numbers.ensures c.start.ensures c.width.ensures c.shown_of-shown.ensures c.put_symbols.ensures

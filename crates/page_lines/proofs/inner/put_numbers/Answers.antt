@@ -7,7 +7,7 @@ use lib.ListN.{get_or, drop}
 use lib.Seq.{sets}
 use Rattle.writers.proofs.Stores.{Left, stored, stored_length, left_all, left_as, left_less, left_none}
 use Rattle.page_lines.specs.Line.{widths, width_of, start_of, right_aligned, columns}
-use Rattle.page_lines.proofs.Columns.{start_first, start_next, column_within, line-number_short, right_length, columns-more, columns-done}
+use Rattle.page_lines.proofs.Columns.{start_first, start_next, column_within, line_number_short, right_length, columns_more, columns_done}
 use Rattle.page_lines.proofs.inner.put_numbers.Goals as goal
 
 pub loop-c-init : goal.loop-c-init
@@ -24,7 +24,7 @@ overflow_add-at c = omega (arith, c.start.ensures, column_within c.loop-c.c)
 pub put_number-requires : goal.put_number-requires
 put_number-requires c =
     let i = c.loop-c.c in
-    let short = line-number_short c.args.numbers.now c.requires.1 i (omega arith) in
+    let short = line_number_short c.args.numbers.now c.requires.1 i (omega arith) in
     (omega (arith, c.start.ensures, column_within i, c.width.ensures), omega (arith, short, c.width.ensures))
 
 pub loop-c-preserved : goal.loop-c-preserved
@@ -33,17 +33,17 @@ loop-c-preserved c =
     let l = c.loop-c in
     let xs = g.numbers.now in
     let x = get_or xs l.c 0 in
-    let short = line-number_short xs c.requires.1 l.c (omega arith) in
+    let short = line_number_short xs c.requires.1 l.c (omega arith) in
     let from : c.start.result ≡ start_of l.c = c.start.ensures in
     let wide : c.width.result ≡ width_of l.c = c.width.ensures in
     let S = stored l.out (g.at + start_of l.c) (right_aligned (width_of l.c) x) c.put_number.new.out (g.at + start_of (l.c + 1))
     (omega (arith, start_next l.c, right_length (width_of l.c) x (omega arith)), c.put_number.ensures ∙ ap₂ (λ (a b : ℕ). sets l.out (g.at + a) (right_aligned b x)) from wide) in (
       omega arith,
       stored_length S ∙ l.invariant.1,
-      left_less (columns (drop (l.c + 1) widths) (drop (l.c + 1) xs)) (left_as _ (columns-more widths xs l.c (omega arith) (omega arith)) l.invariant.2) S,
+      left_less (columns (drop (l.c + 1) widths) (drop (l.c + 1) xs)) (left_as _ (columns_more widths xs l.c (omega arith) (omega arith)) l.invariant.2) S,
     )
 
 pub returns : goal.returns
 returns c =
     let l = c.loop-c in
-    (left_none (left_as [] (columns-done widths c.args.numbers.now l.c (omega arith)) l.invariant.2)).bytes
+    (left_none (left_as [] (columns_done widths c.args.numbers.now l.c (omega arith)) l.invariant.2)).bytes

@@ -4,7 +4,7 @@ use mathlib.Core.Path.{sym, ◌∙◌}
 use Prim.Native.Nat.{◌-◌}
 use native.Mathlib.Omega.{arith}
 use lib.ListN.{length-set}
-use Rattle.page_lines.proofs.Columns.{digit_stored, digits-stored}
+use Rattle.page_lines.proofs.Columns.{digit_stored, digits_stored}
 use Rattle.page_lines.proofs.inner.put_symbol.Goals as goal
 
 pub loop-left-preserved : goal.loop-left-preserved
@@ -18,4 +18,4 @@ loop-left-preserved c =
 pub returns : goal.returns
 returns c =
     let l = c.loop-left in
-    sym (digits-stored l.out c.args.at l.left l.rest (omega arith)) ∙ l.invariant.2
+    sym (digits_stored l.out c.args.at l.left l.rest (omega arith)) ∙ l.invariant.2

@@ -7,10 +7,10 @@ use native.Mathlib.Nat.{mul-zero, mul-suc}
 use native.Mathlib.Numerals.{add-one}
 use lib.ListN.{length, get_or, drop}
 use lib.Seq.{sets}
-use Rattle.decimals.proofs.Claims.{digits-in_length}
+use Rattle.decimals.proofs.Claims.{digits_in_length}
 use Rattle.writers.proofs.Stores.{Left, stored, stored_length, left_all, left_as, left_less, left_last}
 use Rattle.page_lines.specs.Line.{spaces, hex_byte, hex_digits, symbols, left_aligned}
-use Rattle.page_lines.proofs.Columns.{symbols-length, symbols-more, symbols-done}
+use Rattle.page_lines.proofs.Columns.{symbols-length, symbols_more, symbols_done}
 use Rattle.page_lines.proofs.inner.put_symbols.Goals as goal
 
 pub loop-i-init : goal.loop-i-init
@@ -30,11 +30,11 @@ loop-i-preserved c =
     let blank = spaces (g.width - g.digits * length xs) in
     let later = symbols g.digits (drop (l.i + 1) xs) in
     let S = stored l.out (g.at + g.digits * l.i) (hex_digits g.digits x) c.put_symbol.new.out (g.at + g.digits * (l.i + 1))
-    (omega (arith, digits-in_length 16 hex_byte g.digits x, ap (λ (n : ℕ). g.digits * n) (add-one l.i), mul-suc g.digits l.i), c.put_symbol.ensures) in (
+    (omega (arith, digits_in_length 16 hex_byte g.digits x, ap (λ (n : ℕ). g.digits * n) (add-one l.i), mul-suc g.digits l.i), c.put_symbol.ensures) in (
       omega arith,
       stored_length S ∙ l.invariant.1,
       left_less (later ++ blank)
-          (left_as _ (ap (λ (s : List ℕ). s ++ blank) (symbols-more g.digits xs l.i (omega arith)) ∙ append_assoc (hex_digits g.digits x) later blank) l.invariant.2) S,
+          (left_as _ (ap (λ (s : List ℕ). s ++ blank) (symbols_more g.digits xs l.i (omega arith)) ∙ append_assoc (hex_digits g.digits x) later blank) l.invariant.2) S,
     )
 
 pub returns : goal.returns
@@ -46,4 +46,4 @@ returns c =
     let e : l.i ≡ length xs = omega arith in
     let S = stored l.out (g.at + g.digits * l.i) blank c.fill.new.out (g.at + g.digits * l.i + length blank)
     (refl, c.fill.ensures ∙ ap (λ (i : ℕ). sets l.out (g.at + g.digits * l.i) (spaces (g.width - g.digits * i))) e) in
-    (left_last (left_as blank (ap (λ (s : List ℕ). s ++ blank) (symbols-done g.digits xs l.i (omega arith))) l.invariant.2) S).bytes
+    (left_last (left_as blank (ap (λ (s : List ℕ). s ++ blank) (symbols_done g.digits xs l.i (omega arith))) l.invariant.2) S).bytes

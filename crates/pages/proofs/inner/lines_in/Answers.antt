@@ -6,7 +6,7 @@ use native.Mathlib.Omega.{arith}
 use lib.ListN.{get_or, drop}
 use Rattle.periods.specs.Period.{part, smallest_period, held_period}
 use Rattle.periods.specs.Width.{word_of}
-use Rattle.periods.proofs.BlockUnit.{block_unit-of_block}
+use Rattle.periods.proofs.BlockUnit.{block_unit_of_block}
 use Rattle.factors.specs.Factorization.{text_of_blocks}
 use Rattle.factors.proofs.BlockByBlock.{none_taken, next_block, one_more_taken, text_more, text_done}
 use Rattle.repetitions.specs.Block.{Block}
@@ -33,7 +33,7 @@ overflow_cast-unit c =
     let end = get_or g.ends.now i.k 0 in
     let l = c.locate-found in
     let K : Block held_period 2 w i.before end = next_block i.invariant.2 (omega arith) in
-    let unit : l.result.unit ≡ smallest_period (part w i.before end) = l.ensures.found.is_unit ∙ block_unit-of_block 2 (part w i.before end) K.1 in
+    let unit : l.result.unit ≡ smallest_period (part w i.before end) = l.ensures.found.is_unit ∙ block_unit_of_block 2 (part w i.before end) K.1 in
     let bounds = block_unit_lem held_period 2 w i.before end K l.result.unit unit in
     omega (arith, bounds, K.0, c.requires.0.0)
 
@@ -45,7 +45,7 @@ write_block-requires-clause-unit_value c =
     let end = get_or g.ends.now i.k 0 in
     let l = c.locate-found in
     let K : Block held_period 2 w i.before end = next_block i.invariant.2 (omega arith) in
-    let unit : l.result.unit ≡ smallest_period (part w i.before end) = l.ensures.found.is_unit ∙ block_unit-of_block 2 (part w i.before end) K.1 in
+    let unit : l.result.unit ≡ smallest_period (part w i.before end) = l.ensures.found.is_unit ∙ block_unit_of_block 2 (part w i.before end) K.1 in
     let bounds = block_unit_lem held_period 2 w i.before end K l.result.unit unit in
     (unit, l.ensures.found.is_number bounds.0 ∙ block_latest held_period w i.before end l.result.unit K unit)
 

@@ -11,15 +11,15 @@ use Rattle.answers.specs.Outcome.{limit}
 use Rattle.periods.specs.Period.{part, smallest_period, held_period, unit_memory}
 use Rattle.periods.specs.Width.{word_of}
 use Rattle.periods.proofs.InPlace.{placed_part}
-use Rattle.periods.proofs.BlockUnit.{block_unit-of_block}
+use Rattle.periods.proofs.BlockUnit.{block_unit_of_block}
 use Rattle.runs.specs.Number.{block_numbers}
-use Rattle.runs.proofs.Number.{block_numbers-are}
+use Rattle.runs.proofs.Number.{block_numbers_are}
 use Rattle.repetitions.specs.Block.{Block}
 use Rattle.repetitions.proofs.Blocks.{block_up, block_unit_lem}
 use Rattle.paths.proofs.Noting.{unit_held}
 use Rattle.widening.proofs.Widened.{widened}
 use Rattle.page_lines.specs.Line.{line_bytes, line, LineNumbers}
-use Rattle.pages.proofs.PageClaims.{numbers_short, page_line-is}
+use Rattle.pages.proofs.PageClaims.{numbers_short, page_line_is}
 use Rattle.pages.proofs.inner.write_block.Goals as goal
 
 -- the block goes up, and its unit fits into it and into unit memory
@@ -27,7 +27,7 @@ module _ (w : List ℕ) (before end unit : ℕ) (K : Block held_period 2 w befor
   unit_small : unit ≤ unit_memory
   unit_small =
       let s = part w before end in
-      omega (arith, u, block_unit-of_block 2 s K.1, unit_held 2 s)
+      omega (arith, u, block_unit_of_block 2 s K.1, unit_held 2 s)
 
   unit_there : before + unit ≤ length w
   unit_there = omega (arith, block_unit_lem held_period 2 w before end K unit u, K.0)
@@ -63,7 +63,7 @@ put_line-requires c =
     let g = c.args in
     let q = c.requires.k_le_before in
     let w = word_of g.wide g.bytes.now g.codes.now in
-    let n = c.block_numbers-numbers.ensures ∙ block_numbers-are w g.k g.before g.end g.unit g.run q.2.0 c.requires.unit_value.0 c.requires.unit_value.1 in
+    let n = c.block_numbers-numbers.ensures ∙ block_numbers_are w g.k g.before g.end g.unit g.run q.2.0 c.requires.unit_value.0 c.requires.unit_value.1 in
     (omega (arith, q.3), numbers_fit w g.k g.before g.end c.block_numbers-numbers.result q.1 q.0 q.2 n, q.4)
 
 pub returns-then-wide : goal.returns-then-wide
@@ -71,12 +71,12 @@ returns-then-wide c =
     let g = c.args in
     let q = c.requires.k_le_before in
     let w = word_of g.wide g.bytes.now g.codes.now in
-    let n = c.block_numbers-numbers.ensures ∙ block_numbers-are w g.k g.before g.end g.unit g.run q.2.0 c.requires.unit_value.0 c.requires.unit_value.1 in
+    let n = c.block_numbers-numbers.ensures ∙ block_numbers_are w g.k g.before g.end g.unit g.run q.2.0 c.requires.unit_value.0 c.requires.unit_value.1 in
     c.put_line.ensures
     ∙ ap (sets g.out.now (line_bytes * g.k))
     (ap₂ (line g.form) n
     (ap (λ (x : List ℕ). part x g.before (g.before + g.unit)) (sym (is_codes g.wide g.bytes.now g.codes.now c.if-wide.true)) ∙ ap (λ (p : ℕ). part w g.before (g.before + p)) c.requires.unit_value.0)
-    ∙ page_line-is g.form w (g.k + 1) g.before g.end)
+    ∙ page_line_is g.form w (g.k + 1) g.before g.end)
 
 pub slice_bounds-widen-end : goal.slice_bounds-widen-end
 slice_bounds-widen-end c =
@@ -98,7 +98,7 @@ put_line-requires-2 c =
     let g = c.args in
     let q = c.requires.k_le_before in
     let w = word_of g.wide g.bytes.now g.codes.now in
-    let n = c.block_numbers-numbers.ensures ∙ block_numbers-are w g.k g.before g.end g.unit g.run q.2.0 c.requires.unit_value.0 c.requires.unit_value.1 in
+    let n = c.block_numbers-numbers.ensures ∙ block_numbers_are w g.k g.before g.end g.unit g.run q.2.0 c.requires.unit_value.0 c.requires.unit_value.1 in
     (omega (arith, q.3), numbers_fit w g.k g.before g.end c.block_numbers-numbers.result q.1 q.0 q.2 n, q.4)
 
 pub returns : goal.returns
@@ -107,7 +107,7 @@ returns c =
     let q = c.requires.k_le_before in
     let u = c.requires.unit_value.0 in
     let w = word_of g.wide g.bytes.now g.codes.now in
-    let n = c.block_numbers-numbers.ensures ∙ block_numbers-are w g.k g.before g.end g.unit g.run q.2.0 u c.requires.unit_value.1 in
+    let n = c.block_numbers-numbers.ensures ∙ block_numbers_are w g.k g.before g.end g.unit g.run q.2.0 u c.requires.unit_value.1 in
     let b = is_bytes g.wide g.bytes.now g.codes.now c.if-wide.false in
     let there : g.before + g.unit ≤ length g.bytes.now = omega (arith, unit_there w g.before g.end g.unit q.2 u, ap length b) in
     let same = ap (λ (m : ℕ). take (m - 0) c.widen.new.wide) (sym (placed_part g.bytes.now g.before (g.before + g.unit) there).long) ∙ widened _ _ _ c.widen.ensures in
@@ -115,4 +115,4 @@ returns c =
     ∙ ap (sets g.out.now (line_bytes * g.k))
     (ap₂ (line g.form) n
     (same ∙ ap (λ (x : List ℕ). part x g.before (g.before + g.unit)) (sym b) ∙ ap (λ (p : ℕ). part w g.before (g.before + p)) u)
-    ∙ page_line-is g.form w (g.k + 1) g.before g.end)
+    ∙ page_line_is g.form w (g.k + 1) g.before g.end)

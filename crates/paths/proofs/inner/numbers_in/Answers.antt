@@ -7,7 +7,7 @@ use native.Mathlib.Omega.{arith}
 use lib.ListN.{length, get_or, take, drop, set}
 use Rattle.periods.specs.Period.{part, smallest_period, held_period}
 use Rattle.periods.specs.Width.{word_of}
-use Rattle.periods.proofs.BlockUnit.{block_unit-of_block}
+use Rattle.periods.proofs.BlockUnit.{block_unit_of_block}
 use Rattle.runs.specs.Number.{run_number}
 use Rattle.factors.proofs.BlockByBlock.{of_blocks-length, Taken, none_taken, next_block, next_number, one_more_taken}
 use Rattle.repetitions.specs.Block.{Block}
@@ -37,7 +37,7 @@ module _ (w ends lent table : List ℕ) (before k : ℕ) (places : length ends �
       → Taken (Block held_period 2 w) ends (length w) (k + 1) end × (set table k number ≡ take (k + 1) (run_numbers w 0 ends) ++ drop (k + 1) lent)
   more h unit number found =
       let K = block h in
-      let u : unit ≡ smallest_period (part w before end) = found.is_unit ∙ block_unit-of_block 2 (part w before end) K.1 in
+      let u : unit ≡ smallest_period (part w before end) = found.is_unit ∙ block_unit_of_block 2 (part w before end) K.1 in
       let n = found.is_number (block_unit_lem held_period 2 w before end K unit u).0 ∙ block_latest held_period w before end unit K u in (
         one_more_taken taken h,
         written_more lent (run_numbers w 0 ends) room k table written _ (omega (arith, of_blocks-length (run_number w) 0 ends)) (n ∙ sym (next_number taken h (run_number w))),

@@ -3,13 +3,13 @@
 use mathlib.Core.Path.{sym}
 use native.Mathlib.Omega.{arith}
 use lib.ListN.{set}
-use Rattle.periods.proofs.Claims.{smallest_period-empty}
+use Rattle.periods.proofs.Claims.{smallest_period_empty}
 use Rattle.periods.proofs.UnitsTable.{units_none}
 use Rattle.periods.proofs.Units.{units_start, units_agree, units_next, units_next_low, units_next_high, units_whole, units_done}
 use Rattle.periods.proofs.bytes.units.Goals as goal
 
 pub returns-then-n-eq0-clause-unit : goal.returns-then-n-eq0-clause-unit
-returns-then-n-eq0-clause-unit c = sym (smallest_period-empty _ c.if-n-eq0.true)
+returns-then-n-eq0-clause-unit c = sym (smallest_period_empty _ c.if-n-eq0.true)
 
 pub returns-then-n-eq0-clause-written : goal.returns-then-n-eq0-clause-written
 returns-then-n-eq0-clause-written c = units_none _ _ c.if-n-eq0.true

@@ -11,7 +11,7 @@ use borrow.Author.Count.{below_more}
 use lib.ListN.{length, get_or}
 use Rattle.periods.specs.Period.{Period, SmallestPeriod, unit_memory, block_of?}
 use Rattle.periods.specs.Edition.{Turns}
-use Rattle.periods.proofs.BlockUnit.{block_of_means, block_unit-found, block_unit-none}
+use Rattle.periods.proofs.BlockUnit.{block_of_means, block_unit_found, block_unit-none}
 use Rattle.periods.proofs.inner.block_unit.Goals as goal
 
 -- the first number of which every pair agrees is the smallest period
@@ -38,4 +38,4 @@ pub returns-after-loop-i : goal.returns-after-loop-i
 returns-after-loop-i c =
     let e : block_of? c.args.turns (length c.args.part.now) (c.outer.p + 1) ≡ true = sym c.is_block_of.ensures ∙ c.if-not-is_block_of.false in
     let f = fits c.args.turns (length c.args.part.now) (c.outer.p + 1) c.requires e in
-    block_unit-found _ _ _ (first_is_smallest _ _ (omega arith) f.0 (λ k l. c.loop-i.invariant.1 k (omega arith)) c.outer.invariant.1) e
+    block_unit_found _ _ _ (first_is_smallest _ _ (omega arith) f.0 (λ k l. c.loop-i.invariant.1 k (omega arith)) c.outer.invariant.1) e

@@ -5,19 +5,19 @@ use Prim.Native.Nat.{ℕ, ◌+◌, ◌≤◌}
 use native.Mathlib.Omega.{arith}
 use Rattle.periods.specs.Period.{part, smallest_period, held_period, block_unit}
 use Rattle.periods.proofs.Editions.{turns_given}
-use Rattle.periods.proofs.BlockUnit.{block_unit-of_block}
-use Rattle.runs.proofs.Number.{block_numbers-are}
+use Rattle.periods.proofs.BlockUnit.{block_unit_of_block}
+use Rattle.runs.proofs.Number.{block_numbers_are}
 use Rattle.repetitions.specs.Block.{Block}
 use Rattle.repetitions.proofs.Blocks.{block_up, block_unit_lem}
 use Rattle.report.specs.Text.{printed_edition, printed_turns, block_name, block_line}
 use Rattle.writers.specs.Line.{line}
 use Rattle.writers.proofs.Stores.{stored, stored_as, ensured}
-use Rattle.report.proofs.Lines.{block_line-is, found_is_run_number, found_most}
+use Rattle.report.proofs.Lines.{block_line_is, found_is_run_number, found_most}
 use Rattle.report.proofs.inner.block_line.Goals as goal
 
 -- the unit of the block, which fits into it
 unit_is : (w : List ℕ) (i j k u : ℕ) → Block held_period printed_turns w i j → k ≡ printed_turns → u ≡ block_unit k (part w i j) → u ≡ smallest_period (part w i j)
-unit_is w i j k u K e f = f ∙ ap (λ (x : ℕ). block_unit x (part w i j)) e ∙ block_unit-of_block printed_turns (part w i j) K.1
+unit_is w i j k u K e f = f ∙ ap (λ (x : ℕ). block_unit x (part w i j)) e ∙ block_unit_of_block printed_turns (part w i j) K.1
 
 unit_bounds : (w : List ℕ) (i j k u : ℕ) → Block held_period printed_turns w i j → k ≡ printed_turns → u ≡ block_unit k (part w i j) → (1 ≤ u) × (i + u ≤ j)
 unit_bounds w i j k u K e f = block_unit_lem held_period printed_turns w i j K u (unit_is w i j k u K e f)
@@ -63,8 +63,8 @@ returns c =
     let e = c.put_line.ensures in
     let u = unit_is g.w.now g.before g.end _ _ K c.turns-turns.ensures unit.ensures in
     let run = found_is_run_number g.w.now g.runs g.count g.before g.end unit.result found.result K c.requires.runs_held.1 u found.ensures in
-    let numbers = made.ensures ∙ block_numbers-are g.w.now g.k g.before g.end unit.result (found.result + 1) K.0 u run in
+    let numbers = made.ensures ∙ block_numbers_are g.w.now g.k g.before g.end unit.result (found.result + 1) K.0 u run in
     let r = ensured
-    (stored_as (block_line g.w.now (g.k + 1) g.before g.end) (ap (line block_name) numbers ∙ block_line-is g.w.now (g.k + 1) g.before g.end)
+    (stored_as (block_line g.w.now (g.k + 1) g.before g.end) (ap (line block_name) numbers ∙ block_line_is g.w.now (g.k + 1) g.before g.end)
     (stored g.out.now g.at (line block_name made.result) _ _ (e.value, e.out_after))) in
     record { value = r.0; out_after = r.1 }

@@ -10,7 +10,7 @@ use Rattle.factors.proofs.BlockByBlock.{next_block, one_more_taken, text_more, t
 use Rattle.repetitions.proofs.Blocks.{block_up, edition_half}
 use Rattle.report.specs.Text.{printed_edition, printed_turns, block_line, block_lines}
 use Rattle.writers.proofs.Stores.{stored, stored_length, ensured, left_as, left_less, left_none}
-use Rattle.report.proofs.Lines.{block_lines-long}
+use Rattle.report.proofs.Lines.{block_lines_long}
 use Rattle.report.proofs.inner.block_lines.Goals as goal
 
 pub block_line-next-requires-clause-at_bound : goal.block_line-next-requires-clause-at_bound
@@ -19,7 +19,7 @@ block_line-next-requires-clause-at_bound c =
     let l = c.loop-k in
     let p = c.requires.at_bound in
     let at = l.invariant.3.place in
-    let long = block_lines-long g.w.now g.ends.now 0 0 in
+    let long = block_lines_long g.w.now g.ends.now 0 0 in
     let few = edition_half printed_edition g.w.now (length g.w.now) g.ends.now p.2 in
     (omega arith, p.1, l.invariant.0, next_block l.invariant.2 (omega arith))
 

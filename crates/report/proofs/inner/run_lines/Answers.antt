@@ -9,7 +9,7 @@ use Rattle.runs.proofs.Records.{length-records}
 use Rattle.report.specs.Text.{run_name, run_lines}
 use Rattle.writers.specs.Line.{line}
 use Rattle.writers.proofs.Stores.{stored, stored_as, stored_none, stored_more, stored_length}
-use Rattle.report.proofs.Lines.{run_lines-none, run_lines-more, run_lines-long}
+use Rattle.report.proofs.Lines.{run_lines-none, run_lines_more, run_lines_long}
 use Rattle.report.proofs.inner.run_lines.Goals as goal
 
 pub loop-i-init : goal.loop-i-init
@@ -21,7 +21,7 @@ pub put_line-next-requires : goal.put_line-next-requires
 put_line-next-requires c =
     let l = c.loop-i in
     let t = c.args.table.now in
-    (omega (arith, l.invariant.2.place, run_lines-long (records l.i t) 0, length-records t l.i), omega arith, omega arith)
+    (omega (arith, l.invariant.2.place, run_lines_long (records l.i t) 0, length-records t l.i), omega arith, omega arith)
 
 pub loop-i-preserved : goal.loop-i-preserved
 loop-i-preserved c =
@@ -31,4 +31,4 @@ loop-i-preserved c =
     let e = c.put_line-next.ensures in
     let S = stored l.out l.next (line run_name ((l.i + 1) ∷ numbers_of r.result)) _ _ (e.value, e.out_after) in
     let L = stored_as (line run_name ((l.i + 1) ∷ numbers_of (record_at t l.i))) (ap (λ (run : Record). line run_name ((l.i + 1) ∷ numbers_of run)) r.ensures) S in
-    (omega arith, stored_length S ∙ l.invariant.1, stored_as (run_lines 0 (records (l.i + 1) t)) (run_lines-more t l.i) (stored_more l.invariant.2 L))
+    (omega arith, stored_length S ∙ l.invariant.1, stored_as (run_lines 0 (records (l.i + 1) t)) (run_lines_more t l.i) (stored_more l.invariant.2 L))

@@ -9,7 +9,7 @@ use Rattle.factors.specs.Table.{rows}
 use Rattle.report.specs.Text.{program_limit, none_text, block_lines, split_text}
 use Rattle.writers.specs.Line.{line}
 use Rattle.report.specs.Records.{most_blocks}
-use Rattle.writers.proofs.Stores.{stored, stored_as, stored_more, ensured, line-long}
+use Rattle.writers.proofs.Stores.{stored, stored_as, stored_more, ensured, line_long}
 use Rattle.report.proofs.Splits.{ends_of, split_refused, split_counted}
 use Rattle.report.proofs.inner.split_lines.Goals as goal
 
@@ -28,7 +28,7 @@ block_lines-requires-clause-at_bound c =
     let n = c.in-Count.size in
     let C = split_counted g.w.now g.choice g.name.now ends_lent work_lent p.1 p.2 p.3 (length-replicate {A = ℕ} most_blocks 0) (length-replicate {A = ℕ} (rows * (program_limit + 1)) 0)
     s.result n c.in-Count.is s.ensures.answer s.new.ends s.ensures.written in
-    (omega (arith, c.put_line-next.ensures.value, line-long g.name.now (n ∷ [])), p.1, rw C.ends C.split)
+    (omega (arith, c.put_line-next.ensures.value, line_long g.name.now (n ∷ [])), p.1, rw C.ends C.split)
 
 pub returns-in-Refused : goal.returns-in-Refused
 returns-in-Refused c =

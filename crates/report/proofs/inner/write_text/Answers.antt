@@ -13,15 +13,15 @@ use Rattle.finder.specs.Find.{record_limit}
 use Rattle.report.specs.Text.{passes_name, fewest_name, most_name, run_lines, split_text, text}
 use Rattle.report.specs.Records.{RunsHeld, RunsListed, run_bytes}
 use Rattle.writers.specs.Line.{line}
-use Rattle.writers.proofs.Stores.{stored, stored_as, left_all, left_less, left_last, line-long}
-use Rattle.report.proofs.Lines.{run_lines-long}
+use Rattle.writers.proofs.Stores.{stored, stored_as, left_all, left_less, left_last, line_long}
+use Rattle.report.proofs.Lines.{run_lines_long}
 use Rattle.report.proofs.Splits.{text_is, split_long}
 use Rattle.report.proofs.Reports.{records_suffice}
 use Rattle.report.proofs.inner.write_text.Goals as goal
 
 -- the lines of the runs are no longer than those of so many records
 lines_long : (w table : List ℕ) (count : ℕ) → RunsListed w table count → length (run_lines 0 (records count table)) ≤ run_bytes * record_limit
-lines_long w table count L = omega (arith, run_lines-long (records count table) 0, length-records table count, records_suffice w table count L)
+lines_long w table count L = omega (arith, run_lines_long (records count table) 0, length-records table count, records_suffice w table count L)
 
 -- what is held are the records of the runs
 held_runs : (w table : List ℕ) (count : ℕ) → RunsListed w table count → (runs : List Record) → take count runs ≡ records count table → RunsHeld w runs count
@@ -33,7 +33,7 @@ held-runs-requires c = (records_suffice c.args.w.now c.args.table.now c.args.cou
 pub run_lines-fewest_from-requires : goal.run_lines-fewest_from-requires
 run_lines-fewest_from-requires c =
     let g = c.args in (
-      omega (arith, c.put_line-runs_from.ensures.value, line-long passes_name (length g.w.now ∷ [])),
+      omega (arith, c.put_line-runs_from.ensures.value, line_long passes_name (length g.w.now ∷ [])),
       records_suffice g.w.now g.table.now g.count c.requires,
       c.requires.1,
     )
@@ -42,7 +42,7 @@ pub split_lines-most_from-requires : goal.split_lines-most_from-requires
 split_lines-most_from-requires c =
     let g = c.args in
     let L = lines_long g.w.now g.table.now g.count c.requires in
-    let A = line-long passes_name (length g.w.now ∷ []) in
+    let A = line_long passes_name (length g.w.now ∷ []) in
     record {
       at_bound = (omega (arith, c.put_line-runs_from.ensures.value, A, c.run_lines-fewest_from.ensures.value, L), c.requires.0, omega arith, omega arith, omega arith);
       runs_held = held_runs g.w.now g.table.now g.count c.requires c.held-runs.result c.held-runs.ensures;
@@ -52,7 +52,7 @@ pub split_lines-requires : goal.split_lines-requires
 split_lines-requires c =
     let g = c.args in
     let L = lines_long g.w.now g.table.now g.count c.requires in
-    let A = line-long passes_name (length g.w.now ∷ []) in
+    let A = line_long passes_name (length g.w.now ∷ []) in
     let F = split_long g.w.now 1 fewest_name c.requires.0 (omega arith) in
     record {
       at_bound = (omega (arith, c.put_line-runs_from.ensures.value, A, c.run_lines-fewest_from.ensures.value, L, c.split_lines-most_from.ensures.value, F), c.requires.0, omega arith, omega arith, omega arith);

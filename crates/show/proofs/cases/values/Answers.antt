@@ -5,7 +5,7 @@ use native.Mathlib.Numerals.{add-one}
 use lib.ListN.{length, drop, length-set}
 use lib.Seq.{sets}
 use Rattle.show.specs.Cases.{values_in}
-use Rattle.show.proofs.Tables.{values_here, values_later, values_none, sets-out}
+use Rattle.show.proofs.Tables.{values_here, values_later, values_none, sets_out}
 use Rattle.show.proofs.cases.values.Goals as goal
 
 pub loop-i-preserved-then-s-at-ne-COMMA : goal.loop-i-preserved-then-s-at-ne-COMMA
@@ -17,7 +17,7 @@ loop-i-preserved-then-s-at-ne-COMMA c =
 pub returns-then-t-k-clause-t_after : goal.returns-then-t-k-clause-t_after
 returns-then-t-k-clause-t_after c =
     let l = c.loop-i in
-    sym (sets-out l.t l.k (values_in (drop l.i c.args.s.now)) (omega arith)) ∙ l.invariant.3
+    sym (sets_out l.t l.k (values_in (drop l.i c.args.s.now)) (omega arith)) ∙ l.invariant.3
 
 pub loop-i-preserved : goal.loop-i-preserved
 loop-i-preserved c =

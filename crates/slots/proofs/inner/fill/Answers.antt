@@ -13,7 +13,7 @@ use Rattle.periods.specs.Square.{square?}
 use Rattle.factorizer.specs.Piece.{piece?}
 use Rattle.factorizer.specs.Fill.{Workable}
 use Rattle.factorizer.specs.Window.{RestKept}
-use Rattle.factorizer.proofs.FillLaws.{second, fourth, zeros, begun, begun_from, begun_kept, filled-from}
+use Rattle.factorizer.proofs.FillLaws.{second, fourth, zeros, begun, begun_from, begun_kept, filled_from}
 use Rattle.slots.specs.Ready.{RunsIn, Ready, Admitted, Added}
 use Rattle.slots.proofs.Tabled.{Tabled, tabled}
 use Rattle.slots.proofs.Admitting.{ready_starts, admitted_ready, ready_ends}
@@ -50,7 +50,7 @@ module _ (x : Choice) (w runs t s z : List ℕ) (n : ℕ) (is : n ≡ length w) 
         → lent u (second n) (fourth n) r ≡ filled x (piece? square? w) (length w) t
     ended e lives r h S q =
         ap (lent u (second n) (fourth n)) q
-        ∙ rw is (filled-from x (piece? square? w) w t u W.1 kept (ready_ends x w runs e e lives u (omega arith) S))
+        ∙ rw is (filled_from x (piece? square? w) w t u W.1 kept (ready_ends x w runs e e lives u (omega arith) S))
 
 pub loop-e-init : goal.loop-e-init
 loop-e-init c = (

@@ -15,7 +15,7 @@ use Rattle.slots.specs.Starts.{InRun, Readable}
 use Rattle.slots.specs.Ready.{RunsIn, list_row, Ready, kept_lead, best_with}
 use Rattle.slots.proofs.Tabled.{Tabled, tabled}
 use Rattle.slots.proofs.Turn.{Turn, Numbers}
-use Rattle.slots.proofs.Turns.{rest_offered, best_bound, numbers, step-over, step-take, step-reads}
+use Rattle.slots.proofs.Turns.{rest_offered, best_bound, numbers, step_over, step-take, step_reads}
 use Rattle.slots.proofs.Taken.{taken_none, taken_reached}
 use Rattle.slots.proofs.inner.visit.Goals as goal
 
@@ -37,7 +37,7 @@ module _ (x : Choice) (w runs t : List ℕ) (n e lives : ℕ) (is : n ≡ length
       run_numbers = numbers x w runs found e some inside lives few t W.1 S u k kept best U h r row_is
 
       over : r.last < e → Turn x w runs e lives t u (k + 1) kept (k + 1) best
-      over l = step-over x w runs found e some inside lives few t W.1 S u k kept best U h r row_is l
+      over l = step_over x w runs found e some inside lives few t W.1 S u k kept best U h r row_is l
 
       taken : e ≤ r.last → (v : List ℕ) (b : ℕ)
           → v ≡ kept_lead x n (set u (list_row n + kept) (get_or u (list_row n + k) 0)) (r.first - 1) (2 * r.period) e
@@ -57,21 +57,21 @@ module _ (x : Choice) (w runs t : List ℕ) (n e lives : ℕ) (is : n ≡ length
           )
 
       reads : e ≤ r.last → Readable n (set u (list_row n + kept) (get_or u (list_row n + k) 0)) (r.first - 1) (2 * r.period) e
-      reads l = rw is (step-reads x w runs found e some inside lives few t W.1 S u k kept best U h r row_is l)
+      reads l = rw is (step_reads x w runs found e some inside lives few t W.1 S u k kept best U h r row_is l)
 
     -- after the loop all runs were taken
     module _ (h : lives ≤ k) (l : k ≤ lives) where
-      all-taken : Turn x w runs e lives t u lives kept lives best
-      all-taken = let z : k ≡ lives = omega arith in subst (λ (y : ℕ). Turn x w runs e lives t u y kept y best) z U
+      all_taken : Turn x w runs e lives t u lives kept lives best
+      all_taken = let z : k ≡ lives = omega arith in subst (λ (y : ℕ). Turn x w runs e lives t u y kept y best) z U
 
       none_offered : get_or u best 0 ≡ none → (kept ≤ lives) × Ready x w runs (e + 1) (e + 1) kept u
-      none_offered z = (omega (arith, U.listing.fewer), taken_none x w runs found W.0 e some inside lives t S u kept best all-taken best_small z)
+      none_offered z = (omega (arith, U.listing.fewer), taken_none x w runs found W.0 e some inside lives t S u kept best all_taken best_small z)
 
       one_offered : (get_or u best 0 ≡ none → ⊥) → (v : List ℕ) → v ≡ offered x e (n + 1 + e) (get_or u best 0 + 1) best u
           → (kept ≤ lives) × Ready x w runs (e + 1) (e + 1) kept v
       one_offered ne v f = (
         omega (arith, U.listing.fewer),
-        taken_reached x w runs found W.0 e some inside lives t S u kept best all-taken best_small (omega (arith, W.1, U.rest.0)) ne v (rw is at f),
+        taken_reached x w runs found W.0 e some inside lives t S u kept best all_taken best_small (omega (arith, W.1, U.rest.0)) ne v (rw is at f),
       )
 
       rest_after : (v : List ℕ) → v ≡ offered x e (n + 1 + e) (get_or u best 0 + 1) best u → RestKept (length w) t v

@@ -8,7 +8,7 @@ use lib.ListN.{get_or, drop}
 use Rattle.decimals.specs.Decimal.{comma, line_end, plain}
 use Rattle.decimals.proofs.Fields.{fields_more, fields_done, fields_long}
 use Rattle.writers.specs.Line.{fields_of, line}
-use Rattle.writers.proofs.Stores.{stored, stored_length, left_all, left_as, left_less, left_none, left_last, line-is}
+use Rattle.writers.proofs.Stores.{stored, stored_length, left_all, left_as, left_less, left_none, left_last, line_is}
 use Rattle.writers.proofs.inner.put_line.Goals as goal
 
 pub put_field-next-requires : goal.put_field-next-requires
@@ -37,7 +37,7 @@ returns c =
     let xs = g.xs.now in
     let t = c.put_text-next in
     let b = c.put_byte in
-    let all = left_all g.out.now g.at (line name xs) (name ++ (fields_of xs ++ (line_end ∷ []))) (line-is name xs) in
+    let all = left_all g.out.now g.at (line name xs) (name ++ (fields_of xs ++ (line_end ∷ []))) (line_is name xs) in
     let named = left_less (fields_of xs ++ (line_end ∷ [])) all (stored g.out.now g.at name t.new.out t.result (t.ensures.value, t.ensures.out_after)) in
     let fields = left_none (left_as [] (fields_done comma xs l.i (omega arith)) l.invariant.2) in
     let done = left_last (left_less (line_end ∷ []) named fields) (stored l.out l.next (line_end ∷ []) b.new.out b.result (b.ensures.value, b.ensures.out_after)) in
