@@ -1,5 +1,5 @@
 //! Times every call beside a plain Rust twin of the same algorithm, in one run, and prints the
-//! result as a Markdown table. In `rust/`, after `rt staticlib cegridom` at the top of the
+//! result as a Markdown table. In `rust/`, after `make lib` at the top of the
 //! repository:
 //!
 //! ```sh

@@ -1,6 +1,6 @@
 //! Reads a lay-up, one line from standard input, and prints its fewest split in edition 1: the size
 //! and then the end of each block, a line each; `no split` where there is none. In `rust/`, after
-//! `rt staticlib cegridom` at the top of the repository:
+//! `make lib` at the top of the repository:
 //!
 //! ```sh
 //! printf abaabaababaabaabababa | cargo run --release --offline --example fewest

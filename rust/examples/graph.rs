@@ -1,5 +1,5 @@
 //! Prints a picture of a word as SVG: its runs, its graph in edition 1, and the paths of its fewest
-//! and its most split. In `rust/`, after `rt staticlib cegridom` at the top of the repository:
+//! and its most split. In `rust/`, after `make lib` at the top of the repository:
 //!
 //! ```sh
 //! cargo run --release --offline --example graph -- aabaabaa > graph.svg
