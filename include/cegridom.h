@@ -215,7 +215,7 @@ uint32_t cegridom_part_16(const uint16_t *word, size_t n, uint32_t edition, uint
  * roots are the same.
  * Reads word; changes the first 4 x count places of table. Refusals: 1, 7.
  * CEGRIDOM_MOST_RUN_PLACES(n) places, 4 x n, suffice for every word: with so many, 7 never comes.
- * Time at most n x log n, with one more logarithm on powers; 1,246 KiB of stack.
+ * Time at most n x log n, with one more logarithm on powers; 1,235 KiB of stack.
  */
 uint32_t cegridom_runs(const uint8_t *word, size_t n, uint32_t *table, size_t places,
                        uint32_t *count, uint32_t *index);
@@ -228,7 +228,7 @@ uint32_t cegridom_runs_16(const uint16_t *word, size_t n, uint32_t *table, size_
  * first + 3 x unit - 1) to last; a run whose unit is above 256 has none.
  * Reads word; changes the first count places of table. Refusals: 1, 12, 6, 7.
  * n places suffice, since a word has fewer runs than symbols: with so many, 7 never comes.
- * Time that of runs; 1,521 KiB of stack.
+ * Time that of runs; 1,509 KiB of stack.
  */
 uint32_t cegridom_nodes(const uint8_t *word, size_t n, uint32_t edition, uint32_t position,
                         uint32_t *table, size_t places, uint32_t *count, uint32_t *index);
@@ -266,7 +266,7 @@ uint32_t cegridom_best_split_16(const uint16_t *word, size_t n, uint32_t edition
  * 0 to n, CEGRIDOM_NONE where the prefix has no split into squares, and 0 in the following
  * 3 x (n+1); after an answer and after refusals 2 and 7 alike. After 1, 8 and 9 it keeps its
  * contents. Places past 4 x (n+1) never change.
- * Time that of runs, and a step for each run and each symbol in it; 1,248 KiB of stack, or
+ * Time that of runs, and a step for each run and each symbol in it; 1,235 KiB of stack, or
  * 500 bytes and 48 a square of the split where that is more, 1.7 MB at most.
  */
 uint32_t cegridom_best_squares(const uint8_t *word, size_t n, uint32_t choice, uint32_t *ends,
@@ -337,7 +337,7 @@ uint32_t cegridom_judge_squares_16(const uint16_t *word, size_t n, const uint32_
  * Reads word and ends; changes the first blocks places of table.
  * Refusals: 1; 12; then for each end in turn 3, 4; then 5; then 7.
  * CEGRIDOM_MOST_ENDS(n) places suffice: with so many, 7 never comes.
- * Time that of runs and of judge a split; 1,522 KiB of stack.
+ * Time that of runs and of judge a split; 1,510 KiB of stack.
  */
 uint32_t cegridom_path_of_split(const uint8_t *word, size_t n, uint32_t edition,
                                 const uint32_t *ends, size_t end_count, uint32_t *table,
@@ -351,7 +351,7 @@ uint32_t cegridom_path_of_split_16(const uint16_t *word, size_t n, uint32_t edit
  * blocks, exactly when the numbers are those of a path of length n in the edition's graph of the
  * runs.
  * Reads word and numbers. Refusals: 1; 12; 10; then for each end in turn 3, 4; then 5.
- * Time that of runs and of judge a split; 1,522 KiB of stack.
+ * Time that of runs and of judge a split; 1,510 KiB of stack.
  */
 uint32_t cegridom_judge_path(const uint8_t *word, size_t n, uint32_t edition,
                              const uint32_t *numbers, size_t number_count, uint32_t *blocks,
@@ -371,7 +371,7 @@ uint32_t cegridom_judge_path_16(const uint16_t *word, size_t n, uint32_t edition
  * Refusals: 1; 12; then for each end in turn 3, 4; then 5; then 7.
  * CEGRIDOM_PAGE_BYTES(end_count) bytes suffice, and CEGRIDOM_PAGE_BYTES(CEGRIDOM_MOST_ENDS(n)) for
  * every split.
- * Time that of path of a split, and linear in the bytes; 1,523 KiB of stack.
+ * Time that of path of a split, and linear in the bytes; 1,510 KiB of stack.
  */
 uint32_t cegridom_write_page(const uint8_t *word, size_t n, uint32_t edition, const uint32_t *ends,
                              size_t end_count, uint8_t *out, size_t room, uint32_t *bytes,

@@ -199,7 +199,7 @@ pub fn part_into<S: Symbol>(
 /// place `i` of the table has the number `i + 1`.
 ///
 /// Refusals: 1, 7. A table of [`most_runs`](crate::most_runs) runs never gets 7. Time at most
-/// n log n in the length n, with one more logarithm on powers; 1,246 KiB of stack.
+/// n log n in the length n, with one more logarithm on powers; 1,235 KiB of stack.
 ///
 /// ```
 /// use cegridom::{runs_into, Run};
@@ -223,7 +223,7 @@ pub fn runs_into<S: Symbol>(word: &[S], table: &mut [Run]) -> Result<usize, Refu
 /// [`UNIT_MEMORY`](crate::UNIT_MEMORY) has none.
 ///
 /// Refusals: 1, 6, 7. A table of [`most_runs`](crate::most_runs) numbers never gets 7. Time that of
-/// [`runs_into`]; 1,521 KiB of stack.
+/// [`runs_into`]; 1,509 KiB of stack.
 ///
 /// ```
 /// use cegridom::{nodes_into, Edition};
@@ -308,7 +308,7 @@ pub fn best_split_into<S: Symbol>(
 /// on. A word of odd length has none.
 ///
 /// Refusals: 1, 9, 2, 7. [`most_ends`](crate::most_ends) places for the ends never get 7. Time
-/// that of [`runs_into`], and a step for each run and each symbol in it; 1,248 KiB of stack, or 48
+/// that of [`runs_into`], and a step for each run and each symbol in it; 1,235 KiB of stack, or 48
 /// bytes a square of the split where that is more, 1.7 MB at most.
 ///
 /// The working table needs [`work_places`](crate::work_places) places, and those past them never
@@ -516,7 +516,7 @@ pub fn judge_squares<S: Symbol>(word: &[S], ends: &[u32]) -> Result<usize, Refus
 ///
 /// Refusals: 1; then for each end in turn 3, 4; then 5; then 7. A table of
 /// [`most_ends`](crate::most_ends) numbers never gets 7. Time that of [`runs_into`] and of
-/// [`judge_split`]; 1,522 KiB of stack.
+/// [`judge_split`]; 1,510 KiB of stack.
 ///
 /// ```
 /// use cegridom::{path_of_split_into, Edition};
@@ -547,7 +547,7 @@ pub fn path_of_split_into<S: Symbol>(
 /// it.
 ///
 /// Refusals: 1; then for each end in turn 3, 4; then 5. Time that of [`runs_into`] and of
-/// [`judge_split`]; 1,522 KiB of stack.
+/// [`judge_split`]; 1,510 KiB of stack.
 ///
 /// ```
 /// use cegridom::{judge_path, Edition, Refusal, Step};
@@ -584,7 +584,7 @@ pub fn judge_path<S: Symbol>(
 /// four digits each, and then spaces.
 ///
 /// Refusals: 1; then for each end in turn 3, 4; then 5; then 7. Time that of
-/// [`path_of_split_into`], and linear in the bytes; 1,523 KiB of stack.
+/// [`path_of_split_into`], and linear in the bytes; 1,510 KiB of stack.
 ///
 /// ```
 /// use cegridom::{page_bytes, write_page_into, Edition};

@@ -129,7 +129,7 @@ pub fn units<S: Symbol>(word: &[S], first: u32, last: u32) -> Result<Vec<u32>, R
 
 /// The runs of a word, by first and then by unit; run number `i` is at place `i - 1`.
 ///
-/// Refusal: 1. Allocates [`most_runs`] runs while it works; 1,246 KiB of stack.
+/// Refusal: 1. Allocates [`most_runs`] runs while it works; 1,235 KiB of stack.
 ///
 /// ```
 /// let runs = cegridom::runs(b"aabaabaa").unwrap();
@@ -158,7 +158,7 @@ pub fn runs<S: Symbol>(word: &[S]) -> Result<Vec<Run>, Refusal> {
 /// have two whole turns (in edition 2, three) up to it, of a unit of at most
 /// [`UNIT_MEMORY`](crate::UNIT_MEMORY) symbols.
 ///
-/// Refusals: 1, 6. Allocates [`most_runs`] numbers while it works; 1,521 KiB of stack.
+/// Refusals: 1, 6. Allocates [`most_runs`] numbers while it works; 1,509 KiB of stack.
 ///
 /// ```
 /// use cegridom::{nodes, Edition, Refusal};
@@ -228,7 +228,7 @@ pub fn best_sizes<S: Symbol>(
 /// not be primitive. Of the splits of that size it is the one whose last square is longest, then the
 /// one before it, and so on. A word of odd length has none.
 ///
-/// Refusals: 1, 2. Allocates [`most_ends`] and [`work_places`] numbers while it works; 1,248
+/// Refusals: 1, 2. Allocates [`most_ends`] and [`work_places`] numbers while it works; 1,235
 /// KiB of stack, or 48 bytes a square of the split where that is more, 1.7 MB at most.
 ///
 /// ```
@@ -319,7 +319,7 @@ pub fn first_block<'a, S: Symbol>(a: &'a [S], b: &'a [S], edition: Edition) -> &
 /// The run number of each block of a split: that of the one run that encloses the block and has its
 /// unit.
 ///
-/// Refusals: 1; then for each end in turn 3, 4; then 5. Allocates its answer; 1,522 KiB of stack.
+/// Refusals: 1; then for each end in turn 3, 4; then 5. Allocates its answer; 1,510 KiB of stack.
 ///
 /// ```
 /// use cegridom::{judge_path, path_of_split, Edition, Step};
@@ -346,7 +346,7 @@ pub fn path_of_split<S: Symbol>(
 /// digits, nine bytes or four 16-bit symbols. The text of [`write_page_into`] says how a line is laid
 /// out.
 ///
-/// Refusals: 1; then for each end in turn 3, 4; then 5. Allocates its answer; 1,523 KiB of stack.
+/// Refusals: 1; then for each end in turn 3, 4; then 5. Allocates its answer; 1,510 KiB of stack.
 ///
 /// ```
 /// use cegridom::{write_page, Edition, Refusal};

@@ -8,8 +8,7 @@ use native.Mathlib.Omega.{arith}
 use native.Mathlib.Decide.{dec_lt}
 use Rattle.laws.proofs.Tests.{and_left, and_right}
 use lib.Dec.{T, eqb, eqb→eq, lit≤}
-use Rattle.answers.specs.declared.Counted.{Counted}
-use Rattle.answers.specs.declared.Counted.TheVariants.{Count, Refused}
+use Rattle.std.specs.Prelude.{Result, Ok, Err}
 use Rattle.answers.specs.declared.Refusal.{Refusal}
 use Rattle.answers.specs.declared.Refusal.TheVariants.{TooLong, NoFactorization, BadEnd, NotBlock, Unfinished, BadPosition, TooFewPlaces, BadChoice, ShortTable, OddPath, NotPlan, BadEdition}
 use Rattle.answers.specs.Outcome.{Outcome, accepted, refused, code_of, refusal, counted_view}
@@ -107,8 +106,8 @@ pub refused_accepted : (o : Outcome) (n i : ℕ) (v : List ℕ) → o ≡ refuse
 refused_accepted o n i v e d = let z : ◌≡◌ {A = ℕ} 0 1 = cc in omega arith
 
 -- an answer that gives one number is determined by what it returns
-pub counted_injective : (x y : Counted) → counted_view x ≡ counted_view y → x ≡ y
-counted_injective (Count m) (Count n) e = let f : m ≡ n = cc in ap Count f
-counted_injective (Count m) (Refused s) e = absurd (refused_accepted (refusal s) (code_of s).0 (code_of s).1 (m ∷ []) refl (sym e))
-counted_injective (Refused r) (Count n) e = absurd (refused_accepted (refusal r) (code_of r).0 (code_of r).1 (n ∷ []) refl e)
-counted_injective (Refused r) (Refused s) e = ap Refused (refusal_injective r s e)
+pub counted_injective : (x y : Result ℕ Refusal) → counted_view x ≡ counted_view y → x ≡ y
+counted_injective (Ok m) (Ok n) e = let f : m ≡ n = cc in ap Ok f
+counted_injective (Ok m) (Err s) e = absurd (refused_accepted (refusal s) (code_of s).0 (code_of s).1 (m ∷ []) refl (sym e))
+counted_injective (Err r) (Ok n) e = absurd (refused_accepted (refusal r) (code_of r).0 (code_of r).1 (n ∷ []) refl e)
+counted_injective (Err r) (Err s) e = ap Err (refusal_injective r s e)

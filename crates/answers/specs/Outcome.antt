@@ -1,9 +1,7 @@
 -- What a call answers, in the documents' numbers: "The answer to any call ... is a full result or one of eleven numbered refusals", to which document 02
 -- adds 12.
-use Rattle.std.specs.Prelude.{List, [], ◌∷◌, ℕ}
+use Rattle.std.specs.Prelude.{List, [], ◌∷◌, ℕ, Result, Ok, Err}
 use Rattle.answers.specs.declared.Code.{Code}
-use Rattle.answers.specs.declared.Counted.{Counted}
-use Rattle.answers.specs.declared.Counted.TheVariants.{Count, Refused}
 use Rattle.answers.specs.declared.Refusal.{Refusal}
 use Rattle.answers.specs.declared.Refusal.TheVariants.{TooLong, NoFactorization, BadEnd, NotBlock, Unfinished, BadPosition, TooFewPlaces, BadChoice, ShortTable, OddPath, NotPlan, BadEdition}
 
@@ -35,9 +33,9 @@ abbrev pub refusal : Refusal → Outcome
 refusal r = refused (code_of r).0 (code_of r).1
 
 -- the answer of a call that gives one number
-abbrev pub counted_view : Counted → Outcome
-counted_view (Count n) = accepted (n ∷ [])
-counted_view (Refused r) = refusal r
+abbrev pub counted_view : Result ℕ Refusal → Outcome
+counted_view (Ok n) = accepted (n ∷ [])
+counted_view (Err r) = refusal r
 
 -- a later answer, where nothing was refused before
 abbrev pub unless_refused : Outcome → Outcome → Outcome

@@ -1,5 +1,5 @@
-// The answers that every call shares: the numbered refusals of the documents, and the limit on the
-// length of a word. A call's own answer enum stands beside the call and holds one of these.
+// The documents' numbered refusals, which are the errors of the calls' results, and the limit on the
+// length of a word.
 #![tactic(auto)]
 
 ghost use Rattle.std.specs.Prelude.{◌≡◌};
@@ -8,7 +8,7 @@ ghost use Rattle.answers.specs.Outcome.{code_of};
 // The longest word (sequence) that the library takes.
 pub const LIMIT: usize = 70000;
 
-#[derive(Drop)]
+#[derive(Clone, Copy, Debug, PartialEq, Eq)]
 pub enum Refusal {
     // 1: the word is longer than the limit
     TooLong,
@@ -37,33 +37,27 @@ pub enum Refusal {
     BadEdition,
 }
 
-// The answer of a call that gives one number: how many runs, nodes, blocks or bytes there are, or
-// which of two words it is.
-#[derive(Drop)]
-pub enum Counted {
-    Count(u32),
-    Refused(Refusal),
-}
-
 // What a refusal returns, as document 01 says: its number and its index.
-#[derive(Drop)]
+#[derive(Clone, Copy, Debug, PartialEq, Eq)]
 pub struct Code(pub u32, pub u32);
 
-pub fn coded(r: Refusal) -> Code
-    ensures { (result.0 ≡ (code_of r).0) × (result.1 ≡ (code_of r).1) }
-{
-    match r {
-        Refusal::TooLong => Code(1, 0),
-        Refusal::NoFactorization => Code(2, 0),
-        Refusal::BadEnd(i) => Code(3, i),
-        Refusal::NotBlock(i) => Code(4, i),
-        Refusal::Unfinished => Code(5, 0),
-        Refusal::BadPosition => Code(6, 0),
-        Refusal::TooFewPlaces => Code(7, 0),
-        Refusal::BadChoice => Code(8, 0),
-        Refusal::ShortTable => Code(9, 0),
-        Refusal::OddPath => Code(10, 0),
-        Refusal::NotPlan => Code(11, 0),
-        Refusal::BadEdition => Code(12, 0),
+impl From<Refusal> for Code {
+    ghost from_gives = { λ r c. c ≡ code_of r };
+
+    fn from(r: Refusal) -> Code {
+        match r {
+            Refusal::TooLong => Code(1, 0),
+            Refusal::NoFactorization => Code(2, 0),
+            Refusal::BadEnd(i) => Code(3, i),
+            Refusal::NotBlock(i) => Code(4, i),
+            Refusal::Unfinished => Code(5, 0),
+            Refusal::BadPosition => Code(6, 0),
+            Refusal::TooFewPlaces => Code(7, 0),
+            Refusal::BadChoice => Code(8, 0),
+            Refusal::ShortTable => Code(9, 0),
+            Refusal::OddPath => Code(10, 0),
+            Refusal::NotPlan => Code(11, 0),
+            Refusal::BadEdition => Code(12, 0),
+        }
     }
 }

@@ -4,16 +4,14 @@ use Prim.Native.Nat.{ℕ, ◌≤◌, ◌<◌}
 use native.Mathlib.Omega.{arith}
 use lib.ListN.{length}
 use lib.Seq.{ext_get_or}
-use Rattle.answers.specs.declared.Counted.{Counted}
-use Rattle.answers.specs.declared.Counted.TheVariants.{Count, Refused}
+use Rattle.std.specs.Prelude.{Result, Ok, Err}
+use Rattle.answers.specs.declared.Refusal.{Refusal}
 use Rattle.answers.specs.Outcome.{Outcome, accepted, refused, counted_view}
 use Rattle.answers.proofs.Claims.{number_range, counted_injective}
-use Rattle.periods.specs.declared.PartAnswer.{PartAnswer}
-use Rattle.periods.specs.declared.PartAnswer.TheVariants.{Described}
+use Rattle.periods.specs.declared.Description.{Description}
 use Rattle.periods.specs.Part.{part_view}
 use Rattle.periods.proofs.PartClaims.{part-view_injective}
-use Rattle.plans.specs.declared.PlanAnswer.{PlanAnswer}
-use Rattle.plans.specs.declared.PlanAnswer.TheVariants.{Plan}
+use Rattle.plans.specs.declared.Plan.{Plan}
 use Rattle.plans.specs.Calls.{plan_view}
 use Rattle.plans.proofs.CallClaims.{plan_view_injective}
 use Rattle.cegridom.specs.Export.{result_of, index_of, value_of}
@@ -34,32 +32,32 @@ handed_over_determines k (refused n j) (refused m l) a b r i h = ap₂ refused r
 
 -- ---- the calls' answers have the values that are handed over
 
-pub counted_has : (a : Counted) → HasValues 1 (counted_view a)
-counted_has (Count n) = refl
-counted_has (Refused r) = (number_range r).0
+pub counted_has : (a : Result ℕ Refusal) → HasValues 1 (counted_view a)
+counted_has (Ok n) = refl
+counted_has (Err r) = (number_range r).0
 
-pub part_has : (a : PartAnswer) → HasValues 4 (part_view a)
-part_has (Described d) = refl
-part_has (PartAnswer.Refused r) = (number_range r).0
+pub part_has : (a : Result Description Refusal) → HasValues 4 (part_view a)
+part_has (Ok d) = refl
+part_has (Err r) = (number_range r).0
 
-pub plan_has : (a : PlanAnswer) → HasValues 2 (plan_view a)
-plan_has (Plan n k) = refl
-plan_has (PlanAnswer.Refused r) = (number_range r).0
+pub plan_has : (a : Result Plan Refusal) → HasValues 2 (plan_view a)
+plan_has (Ok p) = refl
+plan_has (Err r) = (number_range r).0
 
 -- so two answers that are handed over alike are the same
 pub counted_handed_over :
-    (a b : Counted) → result_of (counted_view a) ≡ result_of (counted_view b) → index_of (counted_view a) ≡ index_of (counted_view b)
+    (a b : Result ℕ Refusal) → result_of (counted_view a) ≡ result_of (counted_view b) → index_of (counted_view a) ≡ index_of (counted_view b)
     → value_of 0 (counted_view a) ≡ value_of 0 (counted_view b) → a ≡ b
 counted_handed_over a b r i h =
     counted_injective a b
     (handed_over_determines 1 (counted_view a) (counted_view b) (counted_has a) (counted_has b) r i (λ j l. let z : j ≡ 0 = omega arith in rw z h))
 
 pub part-handed_over :
-    (a b : PartAnswer) → result_of (part_view a) ≡ result_of (part_view b) → index_of (part_view a) ≡ index_of (part_view b)
+    (a b : Result Description Refusal) → result_of (part_view a) ≡ result_of (part_view b) → index_of (part_view a) ≡ index_of (part_view b)
     → ((j : ℕ) → j < 4 → value_of j (part_view a) ≡ value_of j (part_view b)) → a ≡ b
 part-handed_over a b r i h = part-view_injective a b (handed_over_determines 4 (part_view a) (part_view b) (part_has a) (part_has b) r i h)
 
 pub plan_handed_over :
-    (a b : PlanAnswer) → result_of (plan_view a) ≡ result_of (plan_view b) → index_of (plan_view a) ≡ index_of (plan_view b)
+    (a b : Result Plan Refusal) → result_of (plan_view a) ≡ result_of (plan_view b) → index_of (plan_view a) ≡ index_of (plan_view b)
     → ((j : ℕ) → j < 2 → value_of j (plan_view a) ≡ value_of j (plan_view b)) → a ≡ b
 plan_handed_over a b r i h = plan_view_injective a b (handed_over_determines 2 (plan_view a) (plan_view b) (plan_has a) (plan_has b) r i h)

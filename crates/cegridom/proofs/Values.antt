@@ -17,7 +17,7 @@ use Rattle.squares.specs.BestSquares.{SquaresMeaning}
 use Rattle.squares.specs.JudgeSquares.{SquaresJudgedMeaning}
 use Rattle.comparison.specs.Calls.{Compared, WhichMeaning}
 use Rattle.paths.specs.Calls.{PathMeaning, PathJudgedMeaning}
-use Rattle.page_lines.specs.declared.Form.{Form}
+use Rattle.page_lines.specs.declared.form.Form.{Form}
 use Rattle.pages.specs.Page.{PageMeaning}
 use Rattle.plans.specs.Calls.{WriteMeaning, ReadMeaning}
 use Rattle.cegridom.proofs.Claims.{HasValues}

@@ -6,7 +6,7 @@ use Rattle.repetitions.specs.BestSplit.{best_outcome, BestMeaning}
 use Rattle.squares.specs.BestSquares.{squares_outcome, SquaresMeaning}
 use Rattle.comparison.specs.Calls.{which_outcome, WhichMeaning}
 use Rattle.paths.specs.Calls.{path_outcome, PathMeaning}
-use Rattle.page_lines.specs.declared.Form.{Form}
+use Rattle.page_lines.specs.declared.form.Form.{Form}
 use Rattle.pages.specs.Page.{page_outcome, PageMeaning}
 
 -- 0 for accepted, else the refusal's number

@@ -1,6 +1,7 @@
 // The same calls for words of 16-bit symbols, by one rule: the name with _16 after it, and symbols for
 // bytes. Answers and tables are those for bytes with the same numbers; a page shows four symbols of a
 // unit in four digits each.
+// Kept: the C interface has a name for each width.
 ghost use Rattle.std.specs.Prelude.{◌≡◌, length};
 ghost use Rattle.periods.specs.Part.{part_outcome, part_table};
 ghost use Rattle.runs.specs.Calls.{runs_outcome, runs_table, RunsMeaning};
@@ -37,7 +38,7 @@ pub extern "C" fn cegridom_part_16(
     ensures written { units.new ≡ part_table w.now edition first last units.old }
     ensures meaning { PartHanded w.now edition first last units.old units.new }
 {
-    let answer = periods::part_16(w, edition, first, last, units);
+    let answer = periods::part(w, edition, first, last, units);
     super::hand_over_part(answer, unit, turns, rest, block, index)
 }
 
@@ -54,7 +55,7 @@ pub extern "C" fn cegridom_runs_16(
     ensures written { table.new ≡ runs_table w.now table.old }
     ensures meaning { RunsMeaning w.now table.old (runs_outcome w.now (length table.old)) table.new }
 {
-    let answer = run_table::runs_16(w, table);
+    let answer = run_table::runs(w, table);
     super::hand_over(answer, count, index)
 }
 
@@ -73,7 +74,7 @@ pub extern "C" fn cegridom_nodes_16(
     ensures written { table.new ≡ nodes_table w.now edition position table.old }
     ensures meaning { NodesMeaning w.now edition position table.old (nodes_outcome w.now edition position (length table.old)) table.new }
 {
-    let answer = nodes::nodes_16(w, edition, position, table);
+    let answer = nodes::nodes(w, edition, position, table);
     super::hand_over(answer, count, index)
 }
 
@@ -94,7 +95,7 @@ pub extern "C" fn cegridom_best_split_16(
     ensures worked { work.new ≡ best_work w.now edition choice work.old }
     ensures meaning { BestHanded w.now edition choice ends.old work.old ends.new work.new }
 {
-    let answer = repetitions::best_split_16(w, edition, choice, ends, work);
+    let answer = repetitions::best_split(w, edition, choice, ends, work);
     super::hand_over(answer, size, index)
 }
 
@@ -114,7 +115,7 @@ pub extern "C" fn cegridom_best_squares_16(
     ensures worked { work.new ≡ squares_work w.now choice work.old }
     ensures meaning { SquaresHanded w.now choice ends.old work.old ends.new work.new }
 {
-    let answer = squares::best_squares_16(w, choice, ends, work);
+    let answer = squares::best_squares(w, choice, ends, work);
     super::hand_over(answer, size, index)
 }
 
@@ -133,7 +134,7 @@ pub extern "C" fn cegridom_which_first_16(
     ensures worked { work.new ≡ which_work a.now b.now edition work.old }
     ensures meaning { WhichHanded a.now b.now edition work.old work.new }
 {
-    let answer = comparison::which_first_16(a, b, edition, work);
+    let answer = comparison::which_first(a, b, edition, work);
     super::hand_over(answer, which, index)
 }
 
@@ -152,7 +153,7 @@ pub extern "C" fn cegridom_first_block_16(
     ensures worked { work.new ≡ which_work a.now b.now edition work.old }
     ensures meaning { FirstMeaning a.now b.now edition work.old which.new symbols.new work.new }
 {
-    let answer = comparison::compare_16(a, b, edition, work);
+    let answer = comparison::compare(a, b, edition, work);
     super::hand_over_choice(answer, which, symbols)
 }
 
@@ -169,7 +170,7 @@ pub extern "C" fn cegridom_judge_split_16(
     ensures index { index.new ≡ index_of (split_outcome w.now edition ends.now) }
     ensures meaning { SplitMeaning w.now edition ends.now (split_outcome w.now edition ends.now) }
 {
-    let answer = repetitions::judge_split_16(w, edition, ends);
+    let answer = repetitions::judge_split(w, edition, ends);
     super::hand_over(answer, blocks, index)
 }
 
@@ -185,7 +186,7 @@ pub extern "C" fn cegridom_judge_squares_16(
     ensures index { index.new ≡ index_of (squares_judged_outcome w.now ends.now) }
     ensures meaning { SquaresJudgedMeaning w.now ends.now (squares_judged_outcome w.now ends.now) }
 {
-    let answer = squares::judge_squares_16(w, ends);
+    let answer = squares::judge_squares(w, ends);
     super::hand_over(answer, blocks, index)
 }
 
@@ -204,7 +205,7 @@ pub extern "C" fn cegridom_path_of_split_16(
     ensures written { table.new ≡ path_table w.now edition ends.now table.old }
     ensures meaning { PathHanded w.now edition ends.now table.old table.new }
 {
-    let answer = paths::path_of_split_16(w, edition, ends, table);
+    let answer = paths::path_of_split(w, edition, ends, table);
     super::hand_over(answer, blocks, index)
 }
 
@@ -221,7 +222,7 @@ pub extern "C" fn cegridom_judge_path_16(
     ensures index { index.new ≡ index_of (path_judged_outcome w.now edition numbers.now) }
     ensures meaning { PathJudgedMeaning w.now edition numbers.now (path_judged_outcome w.now edition numbers.now) }
 {
-    let answer = paths::judge_path_16(w, edition, numbers);
+    let answer = paths::judge_path(w, edition, numbers);
     super::hand_over(answer, blocks, index)
 }
 
@@ -240,6 +241,6 @@ pub extern "C" fn cegridom_write_page_16(
     ensures written { out.new ≡ page_table code_form w.now edition ends.now out.old }
     ensures meaning { PageHanded code_form w.now edition ends.now out.old out.new }
 {
-    let answer = pages::write_page_16(w, edition, ends, out);
+    let answer = pages::write_page(w, edition, ends, out);
     super::hand_over(answer, bytes, index)
 }

@@ -25,28 +25,28 @@ ghost use Rattle.cegridom.specs.Export.{result_of, index_of, value_of, PartHande
 
 mod codes;
 
-use answers::Counted;
+use answers::{Code, Refusal};
 use comparison::Chosen;
-use periods::PartAnswer;
-use plans::PlanAnswer;
+use periods::Description;
+use plans::Plan;
 
 // The version of this interface, 1,000 × major + minor.
 pub const VERSION: u32 = 11;
 
 // Takes an answer that gives one number apart.
-pub(crate) fn hand_over(answer: Counted, count: &mut u32, index: &mut u32) -> u32
+pub(crate) fn hand_over(answer: Result<u32, Refusal>, count: &mut u32, index: &mut u32) -> u32
     ensures value { result ≡ result_of (counted_view answer) }
     ensures count_after { count.new ≡ value_of 0 (counted_view answer) }
     ensures index_after { index.new ≡ index_of (counted_view answer) }
 {
     match answer {
-        Counted::Count(n) => {
+        Ok(n) => {
             *count = n;
             *index = 0;
             0
         }
-        Counted::Refused(r) => {
-            let c = answers::coded(r);
+        Err(r) => {
+            let c = Code::from(r);
             *count = 0;
             *index = c.1;
             c.0
@@ -56,7 +56,7 @@ pub(crate) fn hand_over(answer: Counted, count: &mut u32, index: &mut u32) -> u3
 
 // The same for the answer of the part call.
 pub(crate) fn hand_over_part(
-    answer: PartAnswer,
+    answer: Result<Description, Refusal>,
     unit: &mut u32,
     turns: &mut u32,
     rest: &mut u32,
@@ -71,16 +71,16 @@ pub(crate) fn hand_over_part(
     ensures index_after { index.new ≡ index_of (part_view answer) }
 {
     match answer {
-        PartAnswer::Described(d) => {
+        Ok(d) => {
             *unit = d.period;
             *turns = d.exponent;
             *rest = d.remainder;
-            *block = d.repetition as u32;
+            *block = u32::from(d.repetition);
             *index = 0;
             0
         }
-        PartAnswer::Refused(r) => {
-            let c = answers::coded(r);
+        Err(r) => {
+            let c = Code::from(r);
             *unit = 0;
             *turns = 0;
             *rest = 0;
@@ -93,7 +93,7 @@ pub(crate) fn hand_over_part(
 
 // The same for the answer of the plan reader.
 pub(crate) fn hand_over_plan(
-    answer: PlanAnswer,
+    answer: Result<Plan, Refusal>,
     n: &mut u32,
     count: &mut u32,
     index: &mut u32,
@@ -104,14 +104,14 @@ pub(crate) fn hand_over_plan(
     ensures index_after { index.new ≡ index_of (plan_view answer) }
 {
     match answer {
-        PlanAnswer::Plan(length, ends) => {
-            *n = length;
-            *count = ends;
+        Ok(plan) => {
+            *n = plan.n;
+            *count = plan.count;
             *index = 0;
             0
         }
-        PlanAnswer::Refused(r) => {
-            let c = answers::coded(r);
+        Err(r) => {
+            let c = Code::from(r);
             *n = 0;
             *count = 0;
             *index = c.1;
@@ -122,28 +122,26 @@ pub(crate) fn hand_over_plan(
 
 // Takes what is chosen of two words apart: the word's number and the length of its first block, 0
 // and 0 where none is chosen.
-pub(crate) fn hand_over_choice(answer: Chosen, which: &mut u32, symbols: &mut u32) -> u32
+pub(crate) fn hand_over_choice(
+    answer: Result<Chosen, Refusal>,
+    which: &mut u32,
+    symbols: &mut u32,
+) -> u32
     ensures value { result ≡ 0 }
     ensures which_after { which.new ≡ word_in answer }
     ensures symbols_after { symbols.new ≡ length_in answer }
 {
     match answer {
-        Chosen::First(n) => {
-            *which = comparison::FIRST;
-            *symbols = n;
-            0
+        Ok(chosen) => {
+            *which = chosen.number();
+            *symbols = chosen.length();
         }
-        Chosen::Second(n) => {
-            *which = comparison::SECOND;
-            *symbols = n;
-            0
-        }
-        Chosen::Refused(_) => {
+        Err(_) => {
             *which = 0;
             *symbols = 0;
-            0
         }
     }
+    0
 }
 
 // Part: the unit, turns and rest of the symbols at the positions first to last, and 1 for a block or

@@ -24,7 +24,9 @@ use Rattle.repetitions.specs.Block.{Block, block?}
 use Rattle.repetitions.specs.BestSplit.{last_cell}
 use Rattle.repetitions.proofs.BestClaims.{word_answers}
 use Rattle.comparison.specs.declared.Chosen.{Chosen}
-use Rattle.comparison.specs.declared.Chosen.TheVariants.{First, Second, Refused}
+use Rattle.std.specs.Prelude.{Result, Ok, Err}
+use Rattle.answers.specs.declared.Refusal.{Refusal}
+use Rattle.comparison.specs.declared.Chosen.TheVariants.{First, Second}
 use Rattle.comparison.specs.Measure.{first_end}
 use Rattle.comparison.specs.Calls.{longer, chosen, tested, compared, which_view, which_outcome, which_work, word_in, length_in, front, first_which, first_length, first_block, start_in, Fewest, only, both, Cleared, Compared, neither, first_wins, second_wins, WhichMeaning, too_long, bad_edition, short_table, settled, FirstMeaning, nothing, of_first, of_second, BlockMeaning}
 
@@ -72,19 +74,19 @@ module _ (a b : List ℕ) (edition : ℕ) (t : List ℕ) where
   n = longer a b
 
   -- the two promises: what is chosen, and the working table
-  pub record Promised (c : Chosen) (y : List ℕ) : Type 0 where
+  pub record Promised (c : Result Chosen Refusal) (y : List ℕ) : Type 0 where
     pub choice : c ≡ compared a b edition (length t)
     pub work : y ≡ which_work a b edition t
 
-  pub promised_long : limit < longer a b → Promised (Refused TooLong) t
+  pub promised_long : limit < longer a b → Promised (Err TooLong) t
   unfolding compared which_work
   promised_long h = record { choice = tested_long _ _ _ _ _ _ _ h; work = tested_long _ _ _ _ _ _ _ h }
 
-  pub promised_bad_edition : longer a b ≤ limit → (Edition edition → ⊥) → Promised (Refused BadEdition) t
+  pub promised_bad_edition : longer a b ≤ limit → (Edition edition → ⊥) → Promised (Err BadEdition) t
   unfolding compared which_work
   promised_bad_edition h i = record { choice = tested_bad_edition _ _ _ _ _ _ _ h i; work = tested_bad_edition _ _ _ _ _ _ _ h i }
 
-  pub promised_short : longer a b ≤ limit → Edition edition → length t < rows * (longer a b + 1) → Promised (Refused ShortTable) t
+  pub promised_short : longer a b ≤ limit → Edition edition → length t < rows * (longer a b + 1) → Promised (Err ShortTable) t
   unfolding compared which_work
   promised_short h i l = record { choice = tested_short _ _ _ h i _ _ _ _ l; work = tested_short _ _ _ h i _ _ _ _ l }
 
@@ -121,10 +123,10 @@ first_end_within k w e F = go F.1.0 F.1.1.0.factorization F.1.1.1
 
 module _ (a b : List ℕ) where
   -- the end that goes with a choice lies within the word that is chosen
-  abbrev pub Within : Chosen → Type 0
-  Within (First e) = e ≤ length a
-  Within (Second e) = e ≤ length b
-  Within (Refused r) = Unit {0}
+  abbrev pub Within : Result Chosen Refusal → Type 0
+  Within (Ok (First e)) = e ≤ length a
+  Within (Ok (Second e)) = e ≤ length b
+  Within (Err r) = Unit {0}
 
 module _ (k : ℕ) (a b : List ℕ) where
   -- the answer compares the sizes of the two factorizations
@@ -142,15 +144,15 @@ module _ (k : ℕ) (a b : List ℕ) where
           by (no l) = first_wins (both s t (ends_of k a) (ends_of k b) A B (omega arith)) (rw (le-ltb t s (omega arith)) refl)
 
   -- a choice goes with the end of the first block of that word's smallest factorization
-  abbrev pub Found : Chosen → Type 0
-  Found (First e) = FirstEnd k a e
-  Found (Second e) = FirstEnd k b e
-  Found (Refused r) = Unit {0}
+  abbrev pub Found : Result Chosen Refusal → Type 0
+  Found (Ok (First e)) = FirstEnd k a e
+  Found (Ok (Second e)) = FirstEnd k b e
+  Found (Err r) = Unit {0}
 
-  pub found_within : (c : Chosen) → Found c → Within a b c
-  found_within (First e) F = first_end_within k a e F
-  found_within (Second e) F = first_end_within k b e F
-  found_within (Refused r) F = tt
+  pub found_within : (c : Result Chosen Refusal) → Found c → Within a b c
+  found_within (Ok (First e)) F = first_end_within k a e F
+  found_within (Ok (Second e)) F = first_end_within k b e F
+  found_within (Err r) F = tt
 
   pub chosen_found : Found (chosen (last_cell k a fewest) (last_cell k b fewest) (first_end k a) (first_end k b))
   chosen_found = go (last_cell k a fewest) (last_cell k b fewest) (last_known k a) (last_known k b)
@@ -169,14 +171,14 @@ module _ (k : ℕ) (a b : List ℕ) where
 
 module _ (a b : List ℕ) (edition : ℕ) (t : List ℕ) where
   -- what is chosen, with the table y, means what which first says and goes with the end that first block gives
-  pub record Meant (c : Chosen) (y : List ℕ) : Type 0 where
+  pub record Meant (c : Result Chosen Refusal) (y : List ℕ) : Type 0 where
     pub which : WhichMeaning a b edition t (which_view c) y
     pub found : Found (turns_of edition) a b c
 
   pub choice_means : Meant (compared a b edition (length t)) (which_work a b edition t)
   choice_means = go (dec_lt limit (longer a b)) (edition? edition) (dec_lt (length t) (rows * (longer a b + 1)))
     where
-      by : {c : Chosen} {y : List ℕ} → Promised a b edition t c y → Meant c y → Meant (compared a b edition (length t)) (which_work a b edition t)
+      by : {c : Result Chosen Refusal} {y : List ℕ} → Promised a b edition t c y → Meant c y → Meant (compared a b edition (length t)) (which_work a b edition t)
       by P M = rw (← P.choice, ← P.work) M
 
       left : longer a b ≤ limit → length a ≤ limit
@@ -206,10 +208,10 @@ module _ (a b : List ℕ) (edition : ℕ) (t : List ℕ) where
   pub first_means : FirstMeaning a b edition t (first_which a b edition (length t)) (first_length a b edition (length t)) (which_work a b edition t)
   first_means = go (compared a b edition (length t)) choice_means.which choice_means.found
     where
-      go : (c : Chosen) → WhichMeaning a b edition t (which_view c) (which_work a b edition t) → Found (turns_of edition) a b c → FirstMeaning a b edition t (word_in c) (length_in c) (which_work a b edition t)
-      go (First e) W F = of_first F.0 F.1.0 W F.1.1.0 refl F.1.1.1
-      go (Second e) W F = of_second F.0 F.1.0 W F.1.1.0 refl F.1.1.1
-      go (Refused r) W F = nothing _ _ W refl refl
+      go : (c : Result Chosen Refusal) → WhichMeaning a b edition t (which_view c) (which_work a b edition t) → Found (turns_of edition) a b c → FirstMeaning a b edition t (word_in c) (length_in c) (which_work a b edition t)
+      go (Ok (First e)) W F = of_first F.0 F.1.0 W F.1.1.0 refl F.1.1.1
+      go (Ok (Second e)) W F = of_second F.0 F.1.0 W F.1.1.0 refl F.1.1.1
+      go (Err r) W F = nothing _ _ W refl refl
 
   -- what the calls ensure, from what is chosen
   pub which_answered : (o : Outcome) (y : List ℕ) → o ≡ which_outcome a b edition (length t) → y ≡ which_work a b edition t
@@ -217,17 +219,17 @@ module _ (a b : List ℕ) (edition : ℕ) (t : List ℕ) where
   which_answered o y e f = (e, (f, rw (e, f) which_means))
 
   -- p and q are where the words start, s is where the part x starts
-  pub block_answered : {P : Type 0} (p q : P) (c : Chosen) (x : List ℕ) (s : P) (y : List ℕ) → c ≡ compared a b edition (length t) → x ≡ front a b (word_in c) (length_in c) → s ≡ start_in p q (word_in c)
+  pub block_answered : {P : Type 0} (p q : P) (c : Result Chosen Refusal) (x : List ℕ) (s : P) (y : List ℕ) → c ≡ compared a b edition (length t) → x ≡ front a b (word_in c) (length_in c) → s ≡ start_in p q (word_in c)
       → y ≡ which_work a b edition t → (x ≡ first_block a b edition (length t)) × ((s ≡ start_in p q (first_which a b edition (length t))) × ((y ≡ which_work a b edition t) × BlockMeaning a b edition t x y))
   block_answered p q c x s y e f g h =
-      let is : x ≡ first_block a b edition (length t) = f ∙ ap (λ (d : Chosen). front a b (word_in d) (length_in d)) e in (
+      let is : x ≡ first_block a b edition (length t) = f ∙ ap (λ (d : Result Chosen Refusal). front a b (word_in d) (length_in d)) e in (
         is,
         (
-          g ∙ ap (λ (d : Chosen). start_in p q (word_in d)) e,
+          g ∙ ap (λ (d : Result Chosen Refusal). start_in p q (word_in d)) e,
           (h, record { word = first_which a b edition (length t); end = first_length a b edition (length t); found = rw h first_means; is = is }),
         ),
       )
 
   -- a first block lies within the word that is chosen
-  pub choice_within : (c d : Chosen) → c ≡ compared a b edition (length t) → c ≡ d → Within a b d
+  pub choice_within : (c d : Result Chosen Refusal) → c ≡ compared a b edition (length t) → c ≡ d → Within a b d
   choice_within c d e f = subst (Within a b) (sym e ∙ f) (found_within (turns_of edition) a b (compared a b edition (length t)) choice_means.found)

@@ -25,7 +25,9 @@ use Rattle.repetitions.specs.Block.{Block}
 use Rattle.repetitions.specs.BestSplit.{last_cell}
 use Rattle.repetitions.proofs.Blocks.{block_up}
 use Rattle.comparison.specs.declared.Chosen.{Chosen}
-use Rattle.comparison.specs.declared.Chosen.TheVariants.{First, Second, Refused}
+use Rattle.std.specs.Prelude.{Result, Ok, Err}
+use Rattle.answers.specs.declared.Refusal.{Refusal}
+use Rattle.comparison.specs.declared.Chosen.TheVariants.{First, Second}
 use Rattle.comparison.specs.Measure.{first_end}
 use Rattle.comparison.specs.Calls.{longer, chosen, tested, compared, which_view, which_outcome, which_work, word_in, length_in, front, first_length, first_block, Fewest, Comparable}
 use Rattle.comparison.proofs.CallClaims.{promised_chosen, Known, last_known, FirstEnd, Within, Found, choice_means, choice_within}
@@ -34,10 +36,10 @@ use Rattle.comparison.proofs.Determined.{fewest_reached, one_not_two}
 -- ---- the words swapped
 
 -- the other word is chosen
-abbrev pub turned : Chosen → Chosen
-turned (First e) = Second e
-turned (Second e) = First e
-turned (Refused r) = Refused r
+abbrev pub turned : Result Chosen Refusal → Result Chosen Refusal
+turned (Ok (First e)) = Ok (Second e)
+turned (Ok (Second e)) = Ok (First e)
+turned (Err r) = Err r
 
 -- 1 in the place of 2, and 2 in the place of 1; refusals stay
 abbrev pub other : ℕ → ℕ
@@ -98,7 +100,7 @@ module _ (a b : List ℕ) (edition places : ℕ) where
   unfolding compared
   swap_turns n =
       rw (max_comm (length b) (length a))
-      (ap (λ (r : Chosen). tested (longer a b) edition places (Refused TooLong) (Refused BadEdition) (Refused ShortTable) r) (chosen_turned (last_cell k a fewest) (last_cell k b fewest) (first_end k a) (first_end k b) untied)
+      (ap (λ (r : Result Chosen Refusal). tested (longer a b) edition places (Err TooLong) (Err BadEdition) (Err ShortTable) r) (chosen_turned (last_cell k a fewest) (last_cell k b fewest) (first_end k a) (first_end k b) untied)
       ∙ sym (tested_map turned (longer a b) edition places _ _ _ _))
     where
       untied : (s p q : ℕ) → last_cell k a fewest ≡ reached s p → last_cell k b fewest ≡ reached s q → ⊥
@@ -108,18 +110,18 @@ module _ (a b : List ℕ) (edition places : ℕ) where
   pub swap_answers : (Tied (turns_of edition) a b → ⊥) → which_outcome b a edition places ≡ swapped (which_outcome a b edition places)
   swap_answers n = ap which_view (swap_turns n) ∙ go (compared a b edition places)
     where
-      go : (c : Chosen) → which_view (turned c) ≡ swapped (which_view c)
-      go (First e) = refl
-      go (Second e) = refl
-      go (Refused r) = refl
+      go : (c : Result Chosen Refusal) → which_view (turned c) ≡ swapped (which_view c)
+      go (Ok (First e)) = refl
+      go (Ok (Second e)) = refl
+      go (Err r) = refl
 
   pub swap_block : (Tied (turns_of edition) a b → ⊥) → first_block b a edition places ≡ first_block a b edition places
   swap_block n = rw (swap_turns n) (go (compared a b edition places))
     where
-      go : (c : Chosen) → front b a (word_in (turned c)) (length_in (turned c)) ≡ front a b (word_in c) (length_in c)
-      go (First e) = refl
-      go (Second e) = refl
-      go (Refused r) = refl
+      go : (c : Result Chosen Refusal) → front b a (word_in (turned c)) (length_in (turned c)) ≡ front a b (word_in c) (length_in c)
+      go (Ok (First e)) = refl
+      go (Ok (Second e)) = refl
+      go (Err r) = refl
 
 -- CLAIM: where they are equally large, the first word is the answer
 pub tie_first : (a b : List ℕ) (edition : ℕ) (t : List ℕ) → Comparable a b edition t → Tied (turns_of edition) a b → which_outcome a b edition (length t) ≡ accepted (1 ∷ [])
@@ -169,28 +171,28 @@ module _ (a b : List ℕ) (edition : ℕ) (t : List ℕ) where
   pub first_block_empty : (first_block a b edition (length t) ≡ []) ↔ NoBlock a b (which_outcome a b edition (length t))
   first_block_empty = (to (compared a b edition (length t)) (choice_means a b edition t).found, of (compared a b edition (length t)))
     where
-      to : (c : Chosen) → Found (turns_of edition) a b c → front a b (word_in c) (length_in c) ≡ [] → NoBlock a b (which_view c)
-      to (First e) F q = first_is_empty refl (no_symbols a (λ h. omega (arith, first_end_some (turns_of edition) a e F h, ap length q)))
-      to (Second e) F q = second_is_empty refl (no_symbols b (λ h. omega (arith, first_end_some (turns_of edition) b e F h, ap length q)))
-      to (Refused r) F q = which_first_refuses _ _ refl
+      to : (c : Result Chosen Refusal) → Found (turns_of edition) a b c → front a b (word_in c) (length_in c) ≡ [] → NoBlock a b (which_view c)
+      to (Ok (First e)) F q = first_is_empty refl (no_symbols a (λ h. omega (arith, first_end_some (turns_of edition) a e F h, ap length q)))
+      to (Ok (Second e)) F q = second_is_empty refl (no_symbols b (λ h. omega (arith, first_end_some (turns_of edition) b e F h, ap length q)))
+      to (Err r) F q = which_first_refuses _ _ refl
 
-      of : (c : Chosen) → NoBlock a b (which_view c) → front a b (word_in c) (length_in c) ≡ []
-      of (First e) (which_first_refuses m i q) = absurd (refused_accepted _ _ _ _ q refl)
-      of (First e) (first_is_empty q z) = rw z (take-nil e)
-      of (First e) (second_is_empty q z) = absurd (one_not_two _ refl q)
-      of (Second e) (which_first_refuses m i q) = absurd (refused_accepted _ _ _ _ q refl)
-      of (Second e) (first_is_empty q z) = absurd (one_not_two _ q refl)
-      of (Second e) (second_is_empty q z) = rw z (take-nil e)
-      of (Refused r) M = refl
+      of : (c : Result Chosen Refusal) → NoBlock a b (which_view c) → front a b (word_in c) (length_in c) ≡ []
+      of (Ok (First e)) (which_first_refuses m i q) = absurd (refused_accepted _ _ _ _ q refl)
+      of (Ok (First e)) (first_is_empty q z) = rw z (take-nil e)
+      of (Ok (First e)) (second_is_empty q z) = absurd (one_not_two _ refl q)
+      of (Ok (Second e)) (which_first_refuses m i q) = absurd (refused_accepted _ _ _ _ q refl)
+      of (Ok (Second e)) (first_is_empty q z) = absurd (one_not_two _ q refl)
+      of (Ok (Second e)) (second_is_empty q z) = rw z (take-nil e)
+      of (Err r) M = refl
 
   -- CLAIM: it has as many symbols as a host is told, so the word that a host is told has at least so many
   pub first_block-length : length (first_block a b edition (length t)) ≡ first_length a b edition (length t)
   first_block-length = go (compared a b edition (length t)) (choice_within a b edition t _ _ refl refl)
     where
-      go : (c : Chosen) → Within a b c → length (front a b (word_in c) (length_in c)) ≡ length_in c
-      go (First e) h = length-take e a ∙ omega arith
-      go (Second e) h = length-take e b ∙ omega arith
-      go (Refused r) h = refl
+      go : (c : Result Chosen Refusal) → Within a b c → length (front a b (word_in c) (length_in c)) ≡ length_in c
+      go (Ok (First e)) h = length-take e a ∙ omega arith
+      go (Ok (Second e)) h = length-take e b ∙ omega arith
+      go (Err r) h = refl
 
   -- CLAIM: any other is a block of the edition
   pub first_block_repeats : (first_block a b edition (length t) ≡ [] → ⊥) → Repetition held_period (turns_of edition) (first_block a b edition (length t))
@@ -200,7 +202,7 @@ module _ (a b : List ℕ) (edition : ℕ) (t : List ℕ) where
       some [] e n = absurd (n (take-nil e))
       some (x ∷ w) e n = omega arith
 
-      go : (c : Chosen) → Found (turns_of edition) a b c → (front a b (word_in c) (length_in c) ≡ [] → ⊥) → Repetition held_period (turns_of edition) (front a b (word_in c) (length_in c))
-      go (First e) F n = first_end_repeats (turns_of edition) a e F (some a e n)
-      go (Second e) F n = first_end_repeats (turns_of edition) b e F (some b e n)
-      go (Refused r) F n = absurd (n refl)
+      go : (c : Result Chosen Refusal) → Found (turns_of edition) a b c → (front a b (word_in c) (length_in c) ≡ [] → ⊥) → Repetition held_period (turns_of edition) (front a b (word_in c) (length_in c))
+      go (Ok (First e)) F n = first_end_repeats (turns_of edition) a e F (some a e n)
+      go (Ok (Second e)) F n = first_end_repeats (turns_of edition) b e F (some b e n)
+      go (Err r) F n = absurd (n refl)

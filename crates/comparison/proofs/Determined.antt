@@ -20,7 +20,9 @@ use Rattle.factors.proofs.Optimal.{best_unique}
 use Rattle.repetitions.specs.Block.{Block}
 use Rattle.repetitions.specs.BestSplit.{last_cell, Unsplittable}
 use Rattle.comparison.specs.declared.Chosen.{Chosen}
-use Rattle.comparison.specs.declared.Chosen.TheVariants.{First, Second, Refused}
+use Rattle.std.specs.Prelude.{Result, Ok, Err}
+use Rattle.answers.specs.declared.Refusal.{Refusal}
+use Rattle.comparison.specs.declared.Chosen.TheVariants.{First, Second}
 use Rattle.comparison.specs.Measure.{first_end}
 use Rattle.comparison.specs.Calls.{longer, chosen, compared, which_view, which_outcome, which_work, word_in, length_in, front, first_which, first_length, first_block, Fewest, Cleared, Compared, WhichMeaning, FirstMeaning, BlockMeaning}
 use Rattle.comparison.proofs.CallClaims.{above_longer, cleared_table, Promised, promised_long, promised_bad_edition, promised_short, promised_chosen, ends_of, Known, last_known, FirstEnd, Found, choice_means}
@@ -78,7 +80,7 @@ module _ (a b : List ℕ) (edition : ℕ) (t : List ℕ) where
   pub which_determined : (o : Outcome) (y : List ℕ) → WhichMeaning a b edition t o y → (o ≡ which_outcome a b edition (length t)) × (y ≡ which_work a b edition t)
   which_determined o y M = go M
     where
-      by : {c : Chosen} {z : List ℕ} → o ≡ which_view c → y ≡ z → Promised a b edition t c z → (o ≡ which_outcome a b edition (length t)) × (y ≡ which_work a b edition t)
+      by : {c : Result Chosen Refusal} {z : List ℕ} → o ≡ which_view c → y ≡ z → Promised a b edition t c z → (o ≡ which_outcome a b edition (length t)) × (y ≡ which_work a b edition t)
       by e f P = (e ∙ ap which_view P.choice, f ∙ P.work)
 
       fits : length a ≤ limit → length b ≤ limit → longer a b ≤ limit
@@ -95,29 +97,29 @@ module _ (a b : List ℕ) (edition : ℕ) (t : List ℕ) where
   -- ---- first block
 
   -- of what is chosen, where which first refuses, answers 1 and answers 2
-  of_nothing : (c : Chosen) (number i : ℕ) → refused number i ≡ which_view c → (0 ≡ word_in c) × (0 ≡ length_in c)
-  of_nothing (First e) number i f = absurd (refused_accepted (refused number i) number i _ refl f)
-  of_nothing (Second e) number i f = absurd (refused_accepted (refused number i) number i _ refl f)
-  of_nothing (Refused r) number i f = (refl, refl)
+  of_nothing : (c : Result Chosen Refusal) (number i : ℕ) → refused number i ≡ which_view c → (0 ≡ word_in c) × (0 ≡ length_in c)
+  of_nothing (Ok (First e)) number i f = absurd (refused_accepted (refused number i) number i _ refl f)
+  of_nothing (Ok (Second e)) number i f = absurd (refused_accepted (refused number i) number i _ refl f)
+  of_nothing (Err r) number i f = (refl, refl)
 
-  of_one : (c : Chosen) (s : ℕ) (es : List ℕ) → accepted (1 ∷ []) ≡ which_view c → Found (turns_of edition) a b c → Fewest (turns_of edition) a s es → (1 ≡ word_in c) × (end_of es 1 ≡ length_in c)
-  of_one (First e) s es f F G =
+  of_one : (c : Result Chosen Refusal) (s : ℕ) (es : List ℕ) → accepted (1 ∷ []) ≡ which_view c → Found (turns_of edition) a b c → Fewest (turns_of edition) a s es → (1 ≡ word_in c) × (end_of es 1 ≡ length_in c)
+  of_one (Ok (First e)) s es f F G =
       (refl, first_end_unique (turns_of edition) a s es e G F)
-  of_one (Second e) s es f F G = absurd (one_not_two _ refl f)
-  of_one (Refused r) s es f F G = absurd (refused_accepted _ _ _ _ refl (sym f))
+  of_one (Ok (Second e)) s es f F G = absurd (one_not_two _ refl f)
+  of_one (Err r) s es f F G = absurd (refused_accepted _ _ _ _ refl (sym f))
 
-  of_two : (c : Chosen) (s : ℕ) (es : List ℕ) → accepted (2 ∷ []) ≡ which_view c → Found (turns_of edition) a b c → Fewest (turns_of edition) b s es → (2 ≡ word_in c) × (end_of es 1 ≡ length_in c)
-  of_two (First e) s es f F G = absurd (one_not_two _ refl (sym f))
-  of_two (Second e) s es f F G =
+  of_two : (c : Result Chosen Refusal) (s : ℕ) (es : List ℕ) → accepted (2 ∷ []) ≡ which_view c → Found (turns_of edition) a b c → Fewest (turns_of edition) b s es → (2 ≡ word_in c) × (end_of es 1 ≡ length_in c)
+  of_two (Ok (First e)) s es f F G = absurd (one_not_two _ refl (sym f))
+  of_two (Ok (Second e)) s es f F G =
       (refl, first_end_unique (turns_of edition) b s es e G F)
-  of_two (Refused r) s es f F G = absurd (refused_accepted _ _ _ _ refl (sym f))
+  of_two (Err r) s es f F G = absurd (refused_accepted _ _ _ _ refl (sym f))
 
   -- CLAIM: the meaning of first block determines the word, the length and the working table
   pub first_determined : (word e : ℕ) (y : List ℕ) → FirstMeaning a b edition t word e y
       → (word ≡ first_which a b edition (length t)) × ((e ≡ first_length a b edition (length t)) × (y ≡ which_work a b edition t))
   first_determined word e y M = go M
     where
-      c : Chosen
+      c : Result Chosen Refusal
       c = compared a b edition (length t)
 
       by : {p q : ℕ} → word ≡ p → e ≡ q → (p ≡ word_in c) × (q ≡ length_in c) → y ≡ which_work a b edition t

@@ -4,8 +4,8 @@
 use mathlib.Core.Path.{◌≡◌, refl, sym, ap, ◌∙◌}
 use mathlib.Core.Bool.{Bool, cond}
 use mathlib.Core.List.{List, ◌++◌}
-use Prim.Native.Nat.{ℕ, ◌+◌, ◌-◌, ◌*◌, ◌≤◌, ◌<◌}
-use native.Mathlib.Nat.{sub-zero, le-max_left, le-max_right}
+use Prim.Native.Nat.{ℕ, ◌+◌, ◌*◌, ◌≤◌, ◌<◌}
+use native.Mathlib.Nat.{le-max_left, le-max_right}
 use native.Mathlib.Omega.{arith}
 use borrow.Author.Tests.{lt-ltb, le-ltb, ne_eqb}
 use lib.Dec.{eqb}
@@ -18,9 +18,10 @@ use Rattle.factors.proofs.Optimal.{size_bound, no_ends}
 use Rattle.factors.proofs.TableLaws.{length-previous, previous-agrees, ends_back_lem}
 use Rattle.repetitions.specs.Block.{block?}
 use Rattle.repetitions.specs.BestSplit.{last_cell}
-use Rattle.factorizer.proofs.FillLaws.{zeros}
 use Rattle.factorizer.proofs.Filled.{filled-size, filled_row, filled_long, filled_past}
 use Rattle.comparison.specs.declared.Chosen.{Chosen}
+use Rattle.std.specs.Prelude.{Result}
+use Rattle.answers.specs.declared.Refusal.{Refusal}
 use Rattle.comparison.specs.Measure.{fewest_size, first_end, end_in, chosen_by}
 use Rattle.comparison.specs.Calls.{longer, chosen}
 
@@ -55,7 +56,7 @@ chosen_by-sizes (reached s p) unreachable i j a b =
 chosen_by-sizes (reached s p) (reached t q) i j a b = rw (ne_eqb s none (λ x. omega (arith, a s p refl))) refl
 
 -- what the sizes and ends that were measured choose
-pub measured_chosen : (k : ℕ) (a b : List ℕ) → length a < none → length b < none → (r : Chosen) (s i t j : ℕ) → r ≡ chosen_by s i t j
+pub measured_chosen : (k : ℕ) (a b : List ℕ) → length a < none → length b < none → (r : Result Chosen Refusal) (s i t j : ℕ) → r ≡ chosen_by s i t j
     → (s ≡ fewest_size k a) × (i ≡ first_end k a) → (t ≡ fewest_size k b) × (j ≡ first_end k b)
     → r ≡ chosen (last_cell k a fewest) (last_cell k b fewest) (first_end k a) (first_end k b)
 measured_chosen k a b h l r s i t j e A B =
@@ -87,8 +88,8 @@ module _ (k : ℕ) (a b t u : List ℕ) (room : rows * (longer a b + 1) ≤ leng
         ∙ filled_past smallest (block? held_period k a) (length a) t (rows * (longer a b + 1)) (omega (arith, left))
 
     -- those places cleared to z
-    pub both_cleared : (places : ℕ) (z : List ℕ) → places ≡ rows * (longer a b + 1) → z ≡ zeros v 0 places
-        → z ++ drop (places - 0) v ≡ replicate (rows * (longer a b + 1)) 0 ++ drop (rows * (longer a b + 1)) t
+    pub both_cleared : (places : ℕ) (z : List ℕ) → places ≡ rows * (longer a b + 1) → z ≡ replicate (length (take places v)) 0
+        → z ++ drop places v ≡ replicate (rows * (longer a b + 1)) 0 ++ drop (rows * (longer a b + 1)) t
     both_cleared places z e f =
         let l : length (take (rows * (longer a b + 1)) v) ≡ rows * (longer a b + 1) = length-take (rows * (longer a b + 1)) v ∙ omega (arith, both_long) in
-        rw (f, sub-zero places, e, l) (ap (λ (x : List ℕ). replicate (rows * (longer a b + 1)) 0 ++ x) both_kept)
+        rw (f, e, l) (ap (λ (x : List ℕ). replicate (rows * (longer a b + 1)) 0 ++ x) both_kept)

@@ -1,6 +1,7 @@
 -- Which of two words to wind first, and its first block: what the calls answer, what they leave in the working table, and what that means. "Errors: 1 for
 -- either, then 12, 9 for the longer, and 2 if neither splits." a and b are the words, k is the turn number of the edition.
-use Rattle.std.specs.Prelude.{◌≡◌, ◌⊎◌, cond, List, [], ◌∷◌, ◌++◌, ℕ, ◌+◌, ◌*◌, ◌≤◌, ◌<◌, max, ltb, eqb, length, get_or, take, drop, replicate}
+use Rattle.std.specs.Prelude.{◌≡◌, ◌⊎◌, cond, List, [], ◌∷◌, ◌++◌, ℕ, ◌+◌, ◌*◌, ◌≤◌, ◌<◌, max, ltb, eqb, length, get_or, take, drop, replicate, Result, Ok, Err}
+use Rattle.answers.specs.declared.Refusal.{Refusal}
 use Rattle.answers.specs.declared.Refusal.TheVariants.{TooLong, NoFactorization, ShortTable, BadEdition}
 use Rattle.answers.specs.Outcome.{Outcome, accepted, refused, refusal, limit}
 use Rattle.periods.specs.Period.{held_period}
@@ -11,7 +12,7 @@ use Rattle.factors.specs.Verdict.{end_of}
 use Rattle.repetitions.specs.Block.{Block}
 use Rattle.repetitions.specs.BestSplit.{last_cell, Unsplittable}
 use Rattle.comparison.specs.declared.Chosen.{Chosen}
-use Rattle.comparison.specs.declared.Chosen.TheVariants.{First, Second, Refused}
+use Rattle.comparison.specs.declared.Chosen.TheVariants.{First, Second}
 use Rattle.comparison.specs.Measure.{first_end}
 
 -- ---- computed
@@ -29,11 +30,11 @@ longer a b = max (length a) (length b)
 
 -- "the one that has fewer blocks in its fewest split"; "The first lay-up wins a tie. If only one can be split it is that one." By what is known of the two
 -- words' last boundaries; i and j are the ends of their first blocks.
-abbrev pub chosen : Cell → Cell → ℕ → ℕ → Chosen
-chosen unreachable unreachable i j = Refused NoFactorization
-chosen (reached s p) unreachable i j = First i
-chosen unreachable (reached t q) i j = Second j
-chosen (reached s p) (reached t q) i j = cond (ltb t s) (Second j) (First i)
+abbrev pub chosen : Cell → Cell → ℕ → ℕ → Result Chosen Refusal
+chosen unreachable unreachable i j = Err NoFactorization
+chosen (reached s p) unreachable i j = Ok (First i)
+chosen unreachable (reached t q) i j = Ok (Second j)
+chosen (reached s p) (reached t q) i j = cond (ltb t s) (Ok (Second j)) (Ok (First i))
 
 -- 1, 12 and 9 for words of which the longer has n symbols, where so many places are lent: one of these is met, or the rest decides
 abbrev pub tested : {A : Type 0} → ℕ → ℕ → ℕ → A → A → A → A → A
@@ -41,16 +42,25 @@ tested n edition places long unknown short rest =
     cond (ltb limit n) long (cond (bad_edition? edition) unknown (cond (ltb places (rows * (n + 1))) short rest))
 
 -- the word to wind first and the end of its first block, or the refusal
-unfoldable pub compared : List ℕ → List ℕ → ℕ → ℕ → Chosen
+unfoldable pub compared : List ℕ → List ℕ → ℕ → ℕ → Result Chosen Refusal
 compared a b edition places =
-    tested (longer a b) edition places (Refused TooLong) (Refused BadEdition) (Refused ShortTable)
+    tested (longer a b) edition places (Err TooLong) (Err BadEdition) (Err ShortTable)
     (chosen (last_cell (turns_of edition) a fewest) (last_cell (turns_of edition) b fewest) (first_end (turns_of edition) a) (first_end (turns_of edition) b))
 
+-- the number of the word that is chosen
+abbrev pub number_in : Chosen → ℕ
+number_in (First e) = first
+number_in (Second e) = second
+
+-- the length of its first block
+abbrev pub first_in : Chosen → ℕ
+first_in (First e) = e
+first_in (Second e) = e
+
 -- the answer of which first
-abbrev pub which_view : Chosen → Outcome
-which_view (First e) = accepted (first ∷ [])
-which_view (Second e) = accepted (second ∷ [])
-which_view (Refused r) = refusal r
+abbrev pub which_view : Result Chosen Refusal → Outcome
+which_view (Ok x) = accepted (number_in x ∷ [])
+which_view (Err r) = refusal r
 
 abbrev pub which_outcome : List ℕ → List ℕ → ℕ → ℕ → Outcome
 which_outcome a b edition places = which_view (compared a b edition places)
@@ -62,15 +72,13 @@ which_work a b edition t =
     tested (longer a b) edition (length t) t t t (replicate (rows * (longer a b + 1)) 0 ++ drop (rows * (longer a b + 1)) t)
 
 -- the word that first block gives a part of, 0 for none, and the length of that part
-abbrev pub word_in : Chosen → ℕ
-word_in (First e) = first
-word_in (Second e) = second
-word_in (Refused r) = 0
+abbrev pub word_in : Result Chosen Refusal → ℕ
+word_in (Ok x) = number_in x
+word_in (Err r) = 0
 
-abbrev pub length_in : Chosen → ℕ
-length_in (First e) = e
-length_in (Second e) = e
-length_in (Refused r) = 0
+abbrev pub length_in : Result Chosen Refusal → ℕ
+length_in (Ok x) = first_in x
+length_in (Err r) = 0
 
 -- the first so many symbols of the word with a number; nothing where there is no such word
 abbrev pub front : List ℕ → List ℕ → ℕ → ℕ → List ℕ

@@ -4,11 +4,12 @@
 
 ghost use Rattle.std.specs.Prelude.{◌≡◌, length};
 ghost use Rattle.answers.specs.Outcome.{counted_view};
-ghost use Rattle.comparison.specs.Calls.{compared, which_outcome, which_work, WhichMeaning, first_which, first_block, start_in, BlockMeaning};
+ghost use Rattle.comparison.specs.Calls.{number_in, first_in, compared, which_outcome, which_work, WhichMeaning, first_which, first_block, start_in, BlockMeaning};
 
 mod inner;
 
-use answers::{Counted, Refusal};
+use answers::Refusal;
+use periods::Symbol;
 
 // What which first answers.
 pub const FIRST: u32 = 1;
@@ -16,90 +17,76 @@ pub const FIRST: u32 = 1;
 pub const SECOND: u32 = 2;
 
 // The word to wind first, with the length of its first block.
-#[derive(Drop)]
+#[derive(Clone, Copy, Debug, PartialEq, Eq)]
 pub enum Chosen {
     First(u32),
     Second(u32),
-    Refused(Refusal),
+}
+
+impl Chosen {
+    // The number of the word.
+    pub fn number(self) -> u32
+        ensures { result ≡ number_in self }
+    {
+        match self {
+            Chosen::First(_) => FIRST,
+            Chosen::Second(_) => SECOND,
+        }
+    }
+
+    // The length of its first block.
+    pub fn length(self) -> u32
+        ensures { result ≡ first_in self }
+    {
+        match self {
+            Chosen::First(length) | Chosen::Second(length) => length,
+        }
+    }
 }
 
 // The word to wind first, and the length of its first block: what which first and first block go by.
-pub fn compare(a: &[u8], b: &[u8], edition: u32, work: &mut [u32]) -> Chosen
-    ensures answer { result ≡ compared a.now b.now edition (length work.old) }
-    ensures worked { work.new ≡ which_work a.now b.now edition work.old }
+pub fn compare<S: Symbol>(
+    a: &[S],
+    b: &[S],
+    edition: u32,
+    work: &mut [u32],
+) -> Result<Chosen, Refusal>
+    ensures answer { result ≡ compared (S.numbers a.now) (S.numbers b.now) edition (length work.old) }
+    ensures worked { work.new ≡ which_work (S.numbers a.now) (S.numbers b.now) edition work.old }
 {
-    let none = [0u16; 0];
-    inner::compare(a, &none, b, &none, false, edition, work)
-}
-
-// The same of words of 16-bit symbols.
-pub fn compare_16(a: &[u16], b: &[u16], edition: u32, work: &mut [u32]) -> Chosen
-    ensures answer { result ≡ compared a.now b.now edition (length work.old) }
-    ensures worked { work.new ≡ which_work a.now b.now edition work.old }
-{
-    let none = [0u8; 0];
-    inner::compare(&none, a, &none, b, true, edition, work)
+    inner::compare(S::word(a), S::word(b), edition, work)
 }
 
 // Which first: 1 or 2 for the word that has fewer blocks in its fewest split. The first wins a tie;
 // if only one can be split it is that one. With n the longer length, the first 4 × (n + 1) places of
 // the working table are 0 afterwards, also after 2. Refusals: 1 for either, 12, 9 for the longer, 2.
 // Time: that of two fewest splits; under 1 KiB of stack.
-pub fn which_first(a: &[u8], b: &[u8], edition: u32, work: &mut [u32]) -> Counted
-    ensures answer { counted_view result ≡ which_outcome a.now b.now edition (length work.old) }
-    ensures worked { work.new ≡ which_work a.now b.now edition work.old }
-    ensures meaning { WhichMeaning a.now b.now edition work.old (counted_view result) work.new }
+pub fn which_first<S: Symbol>(
+    a: &[S],
+    b: &[S],
+    edition: u32,
+    work: &mut [u32],
+) -> Result<u32, Refusal>
+    ensures answer { counted_view result ≡ which_outcome (S.numbers a.now) (S.numbers b.now) edition (length work.old) }
+    ensures worked { work.new ≡ which_work (S.numbers a.now) (S.numbers b.now) edition work.old }
+    ensures meaning { WhichMeaning (S.numbers a.now) (S.numbers b.now) edition work.old (counted_view result) work.new }
 {
-    inner::number_of(compare(a, b, edition, work))
-}
-
-// The same of words of 16-bit symbols.
-pub fn which_first_16(a: &[u16], b: &[u16], edition: u32, work: &mut [u32]) -> Counted
-    ensures answer { counted_view result ≡ which_outcome a.now b.now edition (length work.old) }
-    ensures worked { work.new ≡ which_work a.now b.now edition work.old }
-    ensures meaning { WhichMeaning a.now b.now edition work.old (counted_view result) work.new }
-{
-    inner::number_of(compare_16(a, b, edition, work))
+    let chosen = compare(a, b, edition, work)?;
+    Ok(chosen.number())
 }
 
 // First block: of the word that which first answers, the first block of its fewest split, as a part
 // of the caller's own symbols; an empty part where which first refuses. The working table is left as
 // which first leaves it, and time and stack are the same.
-pub fn first_block<'a>(a: &'a [u8], b: &'a [u8], edition: u32, work: &mut [u32]) -> &'a [u8]
-    ensures part { result.now ≡ first_block a.now b.now edition (length work.old) }
-    ensures place { result.ref_ptr ≡ start_in a.entry.ref_ptr b.entry.ref_ptr (first_which a.now b.now edition (length work.old)) }
-    ensures worked { work.new ≡ which_work a.now b.now edition work.old }
-    ensures meaning { BlockMeaning a.now b.now edition work.old result.now work.new }
+pub fn first_block<'a, S: Symbol>(a: &'a [S], b: &'a [S], edition: u32, work: &mut [u32]) -> &'a [S]
+    ensures part { S.numbers result.now ≡ first_block (S.numbers a.now) (S.numbers b.now) edition (length work.old) }
+    ensures place { result.ref_ptr ≡ start_in a.entry.ref_ptr b.entry.ref_ptr (first_which (S.numbers a.now) (S.numbers b.now) edition (length work.old)) }
+    ensures worked { work.new ≡ which_work (S.numbers a.now) (S.numbers b.now) edition work.old }
+    ensures meaning { BlockMeaning (S.numbers a.now) (S.numbers b.now) edition work.old (S.numbers result.now) work.new }
 {
     match compare(a, b, edition, work) {
-        Chosen::First(length) => {
-            return &a[0..length as usize];
-        }
-        Chosen::Second(length) => {
-            return &b[0..length as usize];
-        }
-        Chosen::Refused(_) => {
-            return &a[0..0];
-        }
-    }
-}
-
-// The same of words of 16-bit symbols.
-pub fn first_block_16<'a>(a: &'a [u16], b: &'a [u16], edition: u32, work: &mut [u32]) -> &'a [u16]
-    ensures part { result.now ≡ first_block a.now b.now edition (length work.old) }
-    ensures place { result.ref_ptr ≡ start_in a.entry.ref_ptr b.entry.ref_ptr (first_which a.now b.now edition (length work.old)) }
-    ensures worked { work.new ≡ which_work a.now b.now edition work.old }
-    ensures meaning { BlockMeaning a.now b.now edition work.old result.now work.new }
-{
-    match compare_16(a, b, edition, work) {
-        Chosen::First(length) => {
-            return &a[0..length as usize];
-        }
-        Chosen::Second(length) => {
-            return &b[0..length as usize];
-        }
-        Chosen::Refused(_) => {
-            return &a[0..0];
-        }
+        Ok(Chosen::First(length)) => &a[0..length as usize],
+        Ok(Chosen::Second(length)) => &b[0..length as usize],
+        Err(_) => &a[0..0],
     }
 }

@@ -1,20 +1,20 @@
 -- What the loops of `inner` keep: the digits still to be counted and to be read give what is left of the answer; the digits made so far read as the number
 -- divided by a power of ten. Assumes nothing.
-use mathlib.Core.Path.{◌≡◌, refl, sym, ap, ap₂, ◌∙◌}
-use mathlib.Core.Bool.{Bool, true, false, cond, ◌&&◌}
+use mathlib.Core.Path.{◌≡◌, refl, sym, ap, ap₂, ◌∙◌, subst}
+use mathlib.Core.Bool.{true, cond}
 use mathlib.Core.List.{List, [], ◌∷◌, ◌++◌}
 use Prim.Native.Nat.{ℕ, zero, suc, ◌+◌, ◌-◌, ◌*◌, ◌/◌, ◌%◌, ◌^◌, ◌≤◌, ◌<◌}
 use native.Mathlib.Omega.{arith}
 use native.Mathlib.Decide.{dec_lt}
 use native.Mathlib.Numerals.{add-one}
 use native.Mathlib.Nat.{pow-suc, pow-succ', pow-le-pow_right, mul_assoc, one-mul}
-use borrow.Author.Tests.{lt-ltb, le-ltb, lt-leb}
-use lib.Dec.{leb, ltb}
-use lib.ListN.{length, get_or, set, take, drop, length-drop, drop_of_length-le}
-use lib.Seq.{drop-cons, drop-set-add, take-suc-set, get_or-take, get_or-drop, length-take-le}
-use Rattle.decimals.specs.Decimal.{zero_byte, most_digits, digits_in, decimal_byte, digits, made, digit_count, digits?, spelled, field}
+use borrow.Author.Tests.{lt-ltb, le-ltb}
+use lib.Dec.{T, ltb}
+use lib.ListN.{length, get_or, set, take, drop, length-drop}
+use lib.Seq.{drop-set-add, take-suc-set, length-take-le}
+use Rattle.decimals.specs.Decimal.{zero_byte, most_digits, digits_in, decimal_byte, digits, made, digit_count, digit?, digits?, spelled, field}
 use Rattle.decimals.specs.Read.{number_in}
-use Rattle.decimals.proofs.Claims.{is_digit, number_more, made_none, made_before, count_one, count_more}
+use Rattle.decimals.proofs.Claims.{digit_high, number_more, made_none, made_before, count_one, count_more}
 
 -- ---- counting
 
@@ -52,9 +52,6 @@ counted_more k rest p h = go (9 - k) refl (dec_lt rest 10)
         let d : digit_count (9 - k) rest ≡ suc (digit_count m (rest / 10)) = ap (λ (j : ℕ). digit_count j rest) e ∙ count_more m rest (omega arith) in
         let f : digit_count (9 - (k + 1)) (rest / 10) ≡ digit_count m (rest / 10) = ap (λ (j : ℕ). digit_count j (rest / 10)) {x = 9 - (k + 1)} {y = m} (omega arith) in
         simp (lt-ltb 0 rest p, lt-ltb 0 (rest / 10) (omega arith)) (omega arith)
-
-pub counted_done : (k rest : ℕ) → rest ≤ 0 → counted k rest ≡ k
-counted_done k rest h = simp (le-ltb 0 rest h)
 
 -- ---- writing
 
@@ -127,40 +124,17 @@ read_first bs = refl
 pub field-length : (s : List ℕ) (at width : ℕ) → at + width ≤ length s → length (field s at width) ≡ width
 field-length s at width h = length-take-le width (drop at s) (omega (arith, length-drop at s))
 
--- the field from its place i on, by the byte there
-module _ (s : List ℕ) (at width i x : ℕ) (inside : at + width ≤ length s) where
-  abbrev byte : ℕ
-  byte = get_or s (at + i) 0
+-- the bytes that are read are the field, and there are as many as it is wide
+pub bytes_are : (s : List ℕ) (at width : ℕ) → field s at width ≡ take (at + width - at) (drop at s)
+bytes_are s at width = ap (λ (j : ℕ). take j (drop at s)) {x = width} {y = at + width - at} (omega arith)
 
-  abbrev after : List ℕ
-  after = drop (i + 1) (field s at width)
+pub bytes-length : (s : List ℕ) (at width : ℕ) → at + width ≤ length s → length (take (at + width - at) (drop at s)) ≡ width
+bytes-length s at width h = ap length (sym (bytes_are s at width)) ∙ field-length s at width h
 
-  field_from : i < width → spelled_in x (drop i (field s at width)) ≡ spelled_in x (byte ∷ after)
-  field_from l =
-      ap (spelled_in x)
-      (drop-cons (field s at width) i 0 (omega (arith, field-length s at width inside))
-      ∙ ap₂ (λ (b j : ℕ). b ∷ drop j (field s at width)) (get_or-take width (drop at s) i 0 l ∙ get_or-drop at s i 0) (sym (add-one i)))
+-- the number of one digit
+pub digit_small : (b : ℕ) → digit? b ≡ true → b - zero_byte ≤ 9
+digit_small b e = omega (arith, digit_high b (subst T (sym e) tt))
 
-  pub read_low : i < width → get_or s (at + i) 0 < zero_byte → spelled_in x (drop i (field s at width)) ≡ []
-  read_low l h = field_from l ∙ simp (lt-leb zero_byte byte h)
-
-  pub read_high : i < width → zero_byte + 9 < get_or s (at + i) 0 → spelled_in x (drop i (field s at width)) ≡ []
-  read_high l h = field_from l ∙ go (leb zero_byte byte)
-    where
-      go : (t : Bool) → cond (t && leb byte (zero_byte + 9) && digits? after) (spelled (x * 10 + (byte - zero_byte)) after ∷ []) [] ≡ []
-      go true = simp (lt-leb byte (zero_byte + 9) h)
-      go false = refl
-
-  pub read_digit : i < width → zero_byte ≤ get_or s (at + i) 0 → get_or s (at + i) 0 ≤ zero_byte + 9
-      → spelled_in x (drop i (field s at width)) ≡ spelled_in (x * 10 + (get_or s (at + i) 0 - zero_byte)) (drop (i + 1) (field s at width))
-  read_digit l a b = field_from l ∙ simp (is_digit byte a b)
-
-  pub read_done : width ≤ i → spelled_in x (drop i (field s at width)) ≡ x ∷ []
-  read_done l = ap (spelled_in x) (drop_of_length-le (field s at width) {i = i} (omega (arith, field-length s at width inside)))
-
--- a number of at most eight digits, and what one more makes of it
+-- a number of at most eight digits
 pub eight_digits : (x i : ℕ) → i ≤ 8 → x < 10 ^ i → x < 100000000
 eight_digits x i l h = omega (arith, pow-le-pow_right {n = 10} (omega arith) l)
-
-pub one_digit_more : (x i d : ℕ) → d ≤ 9 → x < 10 ^ i → x * 10 + d < 10 ^ (i + 1)
-one_digit_more x i d l h = rw (add-one i, pow-suc 10 i) (omega arith)

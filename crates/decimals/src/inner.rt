@@ -4,7 +4,7 @@ ghost use Rattle.std.proofs.lemmas.List.Edits.{sets};
 ghost use Rattle.decimals.specs.Decimal.{most_digits, decimal_byte, digits, digit_count, field, made};
 ghost use Rattle.decimals.specs.Read.{number_view, number_in};
 
-use crate::{MOST_DIGITS, Number, ZERO};
+use crate::{MOST_DIGITS, ZERO};
 
 // The powers of ten that a number is divided by.
 const POWERS: [u32; MOST_DIGITS] = [
@@ -17,6 +17,7 @@ pub fn count(x: u32) -> usize
 {
     let mut k: usize = 1;
     let mut rest = x / 10;
+    // Kept: no index runs; the number is divided until nothing is left.
     while 0 < rest {
         rest /= 10;
         k += 1;
@@ -48,30 +49,24 @@ pub fn write(out: &mut [u8], at: usize, width: usize, x: u32)
     requires { (at + width ≤ length out.old) × (width ≤ most_digits) × (x < 10 ^ width) }
     ensures { out.new ≡ sets out.old at (digits width x) }
 {
-    let mut i: usize = 0;
-    while i < width {
+    for i in 0..width {
         make_digit(out, at, width, i, x);
-        i += 1;
     }
 }
 
-// Reads the number that the width bytes from place at on spell.
-pub fn read(s: &[u8], at: usize, width: usize) -> Number
+// Reads the number that the width bytes from place at on spell; none where they are not all digits.
+// Kept: its clause is over the place and the width.
+pub fn read(s: &[u8], at: usize, width: usize) -> Option<u32>
     requires { (at + width ≤ length s.now) × (width ≤ 9) }
     ensures { number_view result ≡ number_in (field s.now at width) }
 {
+    let bytes = &s[at..at + width];
     let mut x: u32 = 0;
-    let mut i: usize = 0;
-    while i < width {
-        let b = s[at + i];
-        if b < ZERO {
-            return Number::NotDigits;
+    for b in bytes {
+        if !b.is_ascii_digit() {
+            return None;
         }
-        if ZERO + 9 < b {
-            return Number::NotDigits;
-        }
-        x = x * 10 + (b - ZERO) as u32;
-        i += 1;
+        x = x * 10 + u32::from(*b - ZERO);
     }
-    Number::Value(x)
+    Some(x)
 }

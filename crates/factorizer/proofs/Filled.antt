@@ -7,18 +7,16 @@ use Prim.Native.Nat.{ℕ, ◌+◌, ◌-◌, ◌*◌, ◌≤◌, ◌<◌}
 use native.Mathlib.Omega.{arith}
 use borrow.Author.Tests.{ne_eqb}
 use lib.Dec.{ltb, eqb}
-use lib.ListN.{length, get_or, take, drop, replicate, length-append, length-take, length-drop, length-replicate, replicate-append-replicate, get_or-append}
+use lib.ListN.{length, get_or, drop, replicate, length-append, length-drop, length-replicate, replicate-append-replicate, get_or-append}
 use lib.Seq.{take_at, drop_at, drop-append-add, drop-drop}
 use Rattle.answers.specs.Outcome.{Outcome, limit}
 use Rattle.factors.specs.Factorization.{Choice, choice_of, Cell, unreachable, reached, cell, best_ends}
 use Rattle.factors.specs.Table.{none, rows, size_in, sizes, previous, filled, ends_back, Linked}
 use Rattle.factors.proofs.Optimal.{size_bound}
 use Rattle.factors.proofs.TableLaws.{length-sizes, length-previous, sizes_at, previous-agrees, linked, ends_back_lem}
-use Rattle.factors.proofs.Lent.{lent}
 use Rattle.factorizer.specs.Piece.{piece?}
 use Rattle.factorizer.specs.Fill.{row_one, Readable, handed_outcome, handed_ends, cleared_row}
 use Rattle.factorizer.specs.Best.{size_outcome, size_ends, whole_cell, settled_ends, settled_work}
-use Rattle.factorizer.proofs.FillLaws.{second, zeros}
 
 module _ (c : Choice) (b : ℕ → ℕ → Bool) (n : ℕ) (t : List ℕ) where
   pub filled-size : (m : ℕ) → m ≤ n → get_or (filled c b n t) m 0 ≡ size_in (cell c b m)
@@ -107,13 +105,6 @@ module _ (c : Choice) (b : ℕ → ℕ → Bool) (n : ℕ) (t : List ℕ) where
             ne_eqb s none (λ x. omega (arith, small h s p f)),
             ends_back_lem c b (previous c b n) n (omega (arith, length-previous c b n)) (previous-agrees c b n) s p f,
           ) refl
-
--- `clear` of row 1
-pub row_cleared : (n : ℕ) (t z : List ℕ) → second n ≤ length t → z ≡ zeros t (n + 1) (second n) → lent t (n + 1) (second n) z ≡ cleared_row n t
-row_cleared n t z h f =
-    let e : second n - (n + 1) ≡ n + 1 = omega arith in
-    let l : length (take (n + 1) (drop (n + 1) t)) ≡ n + 1 = length-take (n + 1) (drop (n + 1) t) ∙ omega (arith, length-drop (n + 1) t) in
-    rw (f, e, l, drop-drop (n + 1) (n + 1) t) refl
 
 -- `factorizer::inner::finish` on a table x that is filled for the pieces of a word; p is the test of a piece
 module _ (p : List ℕ → Bool) (w : List ℕ) (choice : ℕ) (t x : List ℕ) (short : length w ≤ limit) (room : rows * (length w + 1) ≤ length t)

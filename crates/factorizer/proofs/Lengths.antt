@@ -1,4 +1,4 @@
--- The laws that the functions cite, where n is the word's length as a call of `periods::either::length` gives it. Each is the law it cites, rewritten by that
+-- The laws that the functions cite, where n is the word's length as `Word::len` gives it. Each is the law it cites, rewritten by that
 -- equation. Assumes nothing.
 use mathlib.Core.Path.{◌≡◌, refl}
 use mathlib.Core.Logic.{inl}

@@ -6,3 +6,5 @@ pub mod VerdictClaims
 pub mod Judging
 pub mod Lent
 pub mod Filling
+pub mod Choices
+pub mod Examples

@@ -7,12 +7,12 @@ use mathlib.Core.Bool.{Bool, true, false, cond, ◌||◌}
 use mathlib.Core.List.{List, [], ◌∷◌, ◌++◌, map, append_assoc}
 use Prim.Native.Nat.{ℕ, zero, suc, ◌+◌, ◌-◌, ◌≤◌, ◌<◌}
 use native.Mathlib.Omega.{arith}
-use native.Mathlib.Numerals.{sub-one, add-one}
+use native.Mathlib.Numerals.{sub-one}
 use lib.Dec.{T}
 use lib.ListN.{length, get_or, set, take, drop, replicate, length-append, length-set, length-drop, length-replicate, get_or-replicate, length-map, get_or-append, get_or-map}
 use lib.Seq.{get_or-set_same, get_or-set_other, get_or-append-add, get_or-take, get_or-drop, drop-cons, drop-set-lt, drop-append-add, drop-drop, ext_get_or}
-use borrow.Author.Fill.{fill_more}
 use borrow.Author.Tests.{ne_eqb}
+use borrow.Rule.Slice.PartMut.{put_mid}
 use Rattle.factors.specs.Factorization.{Choice, better, Cell, unreachable, reached, offer, cells, cell, follow, ends_from, best_ends}
 use Rattle.factors.specs.Table.{none, size_in, previous_in, Holds, sizes, previous, started, taken, offered, ends_back, Linked}
 use Rattle.factors.specs.Verdict.{end_of}
@@ -58,22 +58,11 @@ module _ (n : ℕ) (t : List ℕ) where
       ∙ drop-drop (k - n) (suc n) t
       ∙ ap (λ (i : ℕ). drop i t) f
 
--- row 0 as it is filled: the first place, one place more, and what stood in the first place before
-pub started_none : (t : List ℕ) → 0 < length t → set t 0 0 ≡ started 0 (set t 0 0)
+-- row 0 as it is filled: the first place is set, and the next n are written over
+pub started_put : (n : ℕ) (t new : List ℕ) → n < length t → new ≡ replicate n none → put_mid 1 n (set t 0 0) new ≡ started n t
 unfolding started
-started_none [] h = absurd (omega arith)
-started_none (x ∷ t) h = refl
-
-pub started_more : (i : ℕ) (t : List ℕ) → 1 ≤ i → i < length t → set (started (i - 1) t) i none ≡ started ((i + 1) - 1) t
-unfolding started
-started_more zero t a b = absurd (omega arith)
-started_more (suc i) [] a b = absurd (omega arith)
-started_more (suc i) (x ∷ t) a b =
-    rw (add-one, sub-one, sub-one) (ap (λ (l : List ℕ). 0 ∷ l) (fill_more i none t (omega arith) ∙ rw add-one))
-
-pub started_over : (n : ℕ) (t : List ℕ) → started n (set t 0 0) ≡ started n t
-unfolding started
-started_over n t = rw (drop-set-lt (suc n) t 0 0 (omega arith))
+started_put n [] new h e = absurd (omega arith)
+started_put n (x ∷ t) new h e = rw e
 
 -- ---- an offer
 

@@ -1,3 +1,4 @@
 pub mod Factorization
+pub mod Choice
 pub mod Verdict
 pub mod Table

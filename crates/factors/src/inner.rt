@@ -1,8 +1,10 @@
 // For the library's own crates: the caller shows what each function requires.
-ghost use Rattle.std.specs.Prelude.{◌≡◌, ◌++◌, ◌≤◌, ◌<◌, ◌^◌, length, drop, replicate};
-ghost use Rattle.factors.specs.Factorization.{choice_of};
+ghost use Rattle.std.specs.Prelude.{◌≡◌, ◌++◌, ◌≤◌, ◌<◌, ◌^◌, length, drop};
+ghost use Rattle.factors.specs.Choice.{choice_in};
 ghost use Rattle.factors.specs.Table.{started, offered, ends_back, Linked};
 ghost use Rattle.factors.specs.Verdict.{end_of};
+
+use super::{Choice, NONE};
 
 // Sets row 0 before any block is offered; the other places stay.
 pub fn start(work: &mut [u32], n: usize)
@@ -10,34 +12,21 @@ pub fn start(work: &mut [u32], n: usize)
     ensures { work.new ≡ started n work.old }
 {
     work[0] = 0;
-    let mut i: usize = 1;
-    while i <= n {
-        work[i] = super::NONE;
-        i += 1;
-    }
+    work[1..n + 1].fill(NONE);
 }
 
 // Offers a size, reached from boundary j, to the boundary whose size stands at place at and whose
 // previous boundary at place back. Only a strictly better one is taken, so that of equal ones the
 // first offered stays.
-pub fn offer(work: &mut [u32], choice: u32, at: usize, back: usize, size: u32, j: u32)
+pub fn offer(work: &mut [u32], choice: Choice, at: usize, back: usize, size: u32, j: u32)
     requires { (at < length work.old) × (back < length work.old) }
-    ensures { work.new ≡ offered (choice_of choice) at back size j work.old }
+    ensures { work.new ≡ offered (choice_in choice) at back size j work.old }
 {
     let known = work[at];
-    if known != super::NONE {
-        if choice == super::FEWEST {
-            if known <= size {
-                return;
-            }
-        } else {
-            if size <= known {
-                return;
-            }
-        }
+    if known == NONE || choice.prefers(size, known) {
+        work[at] = size;
+        work[back] = j;
     }
-    work[at] = size;
-    work[back] = j;
 }
 
 // Writes the ends of the count blocks up to boundary j, the last one first, and goes on at the
@@ -61,21 +50,8 @@ pub fn first_end(prev: &[u32], j: u32, count: u32) -> u32
     ensures { result ≡ end_of (ends_back prev.now count j) 1 }
 {
     let mut end = j;
-    let mut left = count;
-    while 1 < left {
+    for _ in 1..count {
         end = prev[end as usize];
-        left -= 1;
     }
     end
-}
-
-// Sets every place of the part that is lent to 0.
-pub fn clear(part: &mut [u32])
-    ensures { part.new ≡ replicate (length part.old) 0 }
-{
-    let mut i: usize = 0;
-    while i < part.len() {
-        part[i] = 0;
-        i += 1;
-    }
 }

@@ -2,9 +2,10 @@
 use mathlib.Core.Path.{◌≡◌, refl}
 use mathlib.Core.List.{List, [], ◌∷◌}
 use Prim.Native.Nat.{ℕ}
+use lib.ListN.{take}
 use Rattle.runs.specs.declared.Record.{Record}
 use Rattle.runs.specs.Table.{records}
-use Rattle.finder.specs.Find.{find_run, find_in}
+use Rattle.finder.specs.Find.{find_run}
 
 -- the flat table of its four runs, and a number more
 abbrev table : List ℕ
@@ -38,5 +39,5 @@ pub finds_none : find_run four 2 3 1 ≡ 4
 finds_none = refl
 
 -- the records after the first three do not count
-pub finds_none_of_three : find_in four 3 7 8 1 ≡ 3
+pub finds_none_of_three : find_run (take 3 four) 7 8 1 ≡ 3
 finds_none_of_three = refl

@@ -1,5 +1,5 @@
 -- The first record of a list that encloses a part and has its period.
-use Rattle.std.specs.Prelude.{ℕ, zero, suc, Bool, true, false, ◌&&◌, List, [], ◌∷◌, take, leb, eqb}
+use Rattle.std.specs.Prelude.{ℕ, zero, suc, Bool, true, false, ◌&&◌, List, [], ◌∷◌, leb, eqb}
 use Rattle.runs.specs.declared.Record.{Record}
 
 -- how many records the bench program holds
@@ -19,7 +19,3 @@ step false t = suc t
 abbrev pub find_run : List Record → ℕ → ℕ → ℕ → ℕ
 find_run [] first last period = zero
 find_run (r ∷ rs) first last period = step (enclosing? r.first r.last r.period first last period) (find_run rs first last period)
-
--- the same over the first count records
-abbrev pub find_in : List Record → ℕ → ℕ → ℕ → ℕ → ℕ
-find_in rs count first last period = find_run (take count rs) first last period

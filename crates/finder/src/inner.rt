@@ -1,20 +1,13 @@
-// For the library's own crates: the caller shows what each function requires. report calls both.
+// For the library's own crates: the caller shows what the function requires.
 ghost use Rattle.std.specs.Prelude.{◌≡◌, ◌*◌, ◌≤◌, length, take};
 ghost use Rattle.runs.specs.Table.{stride, records};
-ghost use Rattle.finder.specs.Find.{record_limit, find_in};
+ghost use Rattle.finder.specs.Find.{record_limit};
 
 use crate::RECORDS;
 use runs::Record;
 
-// find_run over the first count records of an array, which is lent for the call.
-pub fn find_in(runs: [Record; RECORDS], count: usize, first: u32, last: u32, period: u32) -> usize
-    requires { count ≤ record_limit }
-    ensures { result ≡ find_in runs count first last period }
-{
-    crate::find_run(&runs[..count], first, last, period)
-}
-
 // The records of a flat table.
+// Kept: its clause is over the array and the count, and without a heap the array has one length.
 pub fn held(table: &[u32], count: usize) -> [Record; RECORDS]
     requires { (count ≤ record_limit) × (stride * count ≤ length table.now) }
     ensures { take count result ≡ records count table.now }
@@ -25,10 +18,8 @@ pub fn held(table: &[u32], count: usize) -> [Record; RECORDS]
         period: 0,
         root: 0,
     }; RECORDS];
-    let mut i: usize = 0;
-    while i < count {
+    for i in 0..count {
         held[i] = runs::inner::row(table, i);
-        i += 1;
     }
     held
 }

@@ -12,15 +12,11 @@ use runs::Record;
 pub const RECORDS: usize = 1024;
 
 // Whether the bounds lo to hi enclose first to last, and the periods are the same.
+// Kept: the definition `enclosing?` of its clause is over these six numbers.
 pub fn encloses(lo: u32, hi: u32, p: u32, first: u32, last: u32, period: u32) -> bool
     ensures { result ≡ enclosing? lo hi p first last period }
 {
-    if lo <= first {
-        if last <= hi {
-            return p == period;
-        }
-    }
-    false
+    lo <= first && last <= hi && p == period
 }
 
 // The index of the first record that encloses first to last and has the period; the count of
@@ -28,13 +24,10 @@ pub fn encloses(lo: u32, hi: u32, p: u32, first: u32, last: u32, period: u32) ->
 pub fn find_run(runs: &[Record], first: u32, last: u32, period: u32) -> usize
     ensures { result ≡ find_run runs.now first last period }
 {
-    let mut i = 0;
-    while i < runs.len() {
-        let r = runs[i];
+    for (i, r) in runs.iter().enumerate() {
         if encloses(r.first, r.last, r.period, first, last, period) {
-            break;
+            return i;
         }
-        i = i + 1;
     }
-    i
+    runs.len()
 }

@@ -9,10 +9,9 @@ use lib.Seq.{length-take-le}
 use Rattle.periods.specs.Period.{part}
 use Rattle.prefixes.specs.Match.{view, Matched}
 use Rattle.factors.proofs.Lent.{lent}
-use Rattle.runs.specs.declared.Listing.{Listing}
 use Rattle.halves.specs.Scratch.{row_from, prefix_row, suffix_row, ends_row, next_row}
 use Rattle.halves.specs.Found.{Tables, Solved}
-use Rattle.halves.specs.Kept.{Room, Advances, SamePrefixes, SameRecords}
+use Rattle.halves.specs.Kept.{Room, SamePrefixes, SameRecords}
 use Rattle.halves.proofs.ScratchRows.{row_lent, row_lent_before, row_lent_behind, row_lent_long}
 
 module _ (w s x y : List ℕ) (lo m hi : ℕ) (F : 4 * (length w + 1) ≤ length s) where
@@ -69,7 +68,3 @@ room_kept w s s' S R = rw (S.ends, S.next) R
 
 pub solved_kept : (w s s' : List ℕ) (lo hi : ℕ) → SameRecords w s s' → Solved w lo hi (ends_row w s) → Solved w lo hi (ends_row w s')
 solved_kept w s s' lo hi S R = rw S.ends R
-
--- a step from the scratch with other tables
-pub advances_from : (f : Listing) (w s s' s'' t t' : List ℕ) → SameRecords w s s' → Advances f w s' t s'' t' → Advances f w s t s'' t'
-advances_from f w s s' s'' t t' S K = rw (sym S.ends, sym S.next) K

@@ -5,12 +5,9 @@ use mathlib.Core.List.{List}
 use Prim.Native.Nat.{ℕ, ◌+◌, ◌-◌, ◌≤◌}
 use native.Mathlib.Omega.{arith}
 use lib.ListN.{length, get_or}
-use Rattle.runs.specs.declared.Listing.{Listing}
-use Rattle.halves.specs.Scratch.{prefix_row, suffix_row, ends_row, next_row}
-use Rattle.halves.specs.Found.{Tables, Met}
-use Rattle.halves.specs.Kept.{Advances, SamePrefixes}
+use Rattle.halves.specs.Scratch.{prefix_row, suffix_row}
+use Rattle.halves.specs.Found.{Tables}
 use Rattle.halves.proofs.ScratchRows.{row_read}
-use Rattle.halves.proofs.Recorded.{keeps_none}
 use Rattle.halves.proofs.Stretches.{Stretch, above_at, below_at}
 
 module _ (w s : List ℕ) (lo m hi : ℕ) (l : lo ≤ m) (k : m ≤ hi) (h : hi ≤ length w) (X : Tables w lo m hi (prefix_row w s) (suffix_row w s)) where
@@ -29,7 +26,3 @@ module _ (w s : List ℕ) (lo m hi : ℕ) (l : lo ≤ m) (k : m ≤ hi) (h : hi 
       → (get_or s (length w + 1 + (hi - m + p)) 0 ≤ m - p) × Stretch w lo hi (m - p) p (m - p - get_or s (length w + 1 + (hi - m + p)) 0) (m - p + p + get_or s (m - lo - p) 0)
   below_read p pos z =
       rw (suffix_read (hi - m + p) (omega arith), prefix_read (m - lo - p) (omega arith)) at (below_at w lo m hi (prefix_row w s) (suffix_row w s) l k h X p pos z)
-
--- nothing is tried where there is no room for the period
-pub untried : (f : Listing) (w s table : List ℕ) (lo hi d p : ℕ) → Met w lo hi d p (ends_row w s) → Advances f w s table s table × (SamePrefixes w s s × Met w lo hi d p (ends_row w s))
-untried f w s table lo hi d p M = (keeps_none f w (ends_row w s) (next_row w s) table, (record { prefixes = λ i. prefix_row w s; suffixes = λ i. suffix_row w s }, M))

@@ -12,7 +12,7 @@ use Rattle.periods.specs.Period.{part, smallest_period}
 use Rattle.periods.proofs.InPlace.{symbol}
 use Rattle.runs.specs.Table.{run?}
 use Rattle.runs.proofs.Listed.{run_sound}
-use Rattle.halves.specs.Found.{Periodic, Ready, Tried, Below, Solved}
+use Rattle.halves.specs.Found.{Periodic, Tried, Below, Solved}
 use Rattle.halves.proofs.Stretches.{Stretch, stretch_met}
 
 -- what the scan keeps: where the stretch starts, the agreement so far, and that every run with period p that starts before it was found
@@ -25,16 +25,6 @@ pub record Scanned (w : List ℕ) (lo hi p start at : ℕ) (ends : List ℕ) : T
   pub passed : (a b : ℕ) → T (run? w a b) → smallest_period (part w a b) ≡ p → lo ≤ a → b ≤ hi → a < start → b ≤ get_or ends a 0
 
 module _ (w : List ℕ) (lo hi p : ℕ) (pos : 1 ≤ p) (within : hi ≤ length w) where
-  pub scanned_none : (ends : List ℕ) → lo + p ≤ hi → Scanned w lo hi p lo lo ends
-  scanned_none ends h = record {
-    low = omega arith;
-    forward = omega arith;
-    high = h;
-    same = λ i x y. absurd (omega arith);
-    stops = λ i e l. absurd (omega arith);
-    passed = λ a b t q l u x. absurd (omega arith);
-  }
-
   module _ (start at : ℕ) (ends : List ℕ) (S : Scanned w lo hi p start at ends) where
     pub scanned_more : at + p < hi → get_or w at 0 ≡ get_or w (at + p) 0 → Scanned w lo hi p start (at + 1) ends
     scanned_more h e = record {
@@ -58,9 +48,6 @@ module _ (w : List ℕ) (lo hi p : ℕ) (pos : 1 ≤ p) (within : hi ≤ length 
       within = omega (arith, S.forward, S.high);
       same = λ i x y. S.same i (omega arith) (omega (arith, S.forward));
     }
-
-    pub scanned_ready : Below w lo hi p ends → Ready w (start - 0) (start + p + (at - start)) p ends
-    scanned_ready B = record { found = λ e t l s. B.found (start - 0) e t (omega (arith, S.low)) (omega (arith, S.forward, S.high)) s }
 
     -- around each of its places
     stretch : (at + p < hi → get_or w at 0 ≢ get_or w (at + p) 0) → (c : ℕ) → start ≤ c → c ≤ at → Stretch w lo hi c p (start - 0) (start + p + (at - start))

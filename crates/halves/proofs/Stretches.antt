@@ -179,11 +179,6 @@ stretch_met w lo hi c p a b ends S h D = record { found = go }
         let e = stretch_run w lo hi c p a b A B S h t q l u (omega arith) y in
         subst (λ (z : ℕ). B ≤ get_or ends z 0) (sym e.0) (subst (λ (z : ℕ). z ≤ get_or ends a 0) (sym e.1) (D.found (subst (λ (z : ℕ). T (run? w a z)) e.1 (subst (λ (z : ℕ). T (run? w z B)) e.0 t)) (subst (λ (z : ℕ). smallest_period (part w a z) ≡ p) e.1 (subst (λ (z : ℕ). smallest_period (part w z B) ≡ p) e.0 q))))
 
--- no room for p on one side
-pub met_none : (w : List ℕ) (lo hi d p : ℕ) (ends : List ℕ) → (hi < d) ⊎ (d < lo + p) → Met w lo hi d p ends
-met_none w lo hi d p ends (inl h) = record { found = λ A B t q l u x y. absurd (omega arith) }
-met_none w lo hi d p ends (inr h) = record { found = λ A B t q l u x y. absurd (omega arith) }
-
 module _ (w : List ℕ) (lo m hi : ℕ) (h : hi ≤ length w) where
   twice : (A B : ℕ) → T (run? w A B) → B ≤ hi → (A + 2 * smallest_period (part w A B) ≤ B) × (1 ≤ smallest_period (part w A B))
   twice A B t u = let R = run_sound w A B (omega arith) t in (R.twice, R.smallest.period.positive)
@@ -217,9 +212,6 @@ module _ (w : List ℕ) (lo m hi : ℕ) (h : hi ≤ length w) where
 
   pub done_all : (p : ℕ) (ends : List ℕ) → hi < lo + 2 * p → Done w lo m hi p ends → Solved w lo hi ends
   done_all p ends z D = record { found = λ A B t l u. D.found A B t l u (inr (inr (omega (arith, twice A B t u)))) }
-
-pub solved_grow : (w : List ℕ) (lo hi : ℕ) (e f : List ℕ) → ((a : ℕ) → get_or e a 0 ≤ get_or f a 0) → Solved w lo hi e → Solved w lo hi f
-solved_grow w lo hi e f x S = record { found = λ A B t l u. omega (arith, S.found A B t l u, x A) }
 
 pub done_grow : (w : List ℕ) (lo m hi p : ℕ) (e f : List ℕ) → ((a : ℕ) → get_or e a 0 ≤ get_or f a 0) → Done w lo m hi p e → Done w lo m hi p f
 done_grow w lo m hi p e f x D = record { found = λ A B t l u s. omega (arith, D.found A B t l u s, x A) }

@@ -34,10 +34,6 @@ not-false false e = absurd (no_clash e)
 differ : (x y : ℕ) → not (eqb x y) ≡ true → x ≢ y
 differ x y e z = T_not (eqb x y) (subst T (sym e) tt) (subst (λ (k : ℕ). T (eqb x k)) z (eqb_refl x))
 
-pub left_test : (w : List ℕ) (a p : ℕ) → (a ≡ 0 → ⊥) → not (eqb (get_or w (a - 1) 0) (get_or w (a - 1 + p) 0)) ≡ left? w a p
-left_test w zero p h = absurd (h refl)
-left_test w (suc a) p h = let e : suc a - 1 ≡ a = omega arith in rw e refl
-
 left_true : (w : List ℕ) (a p : ℕ) → left? w a p ≡ true → (i : ℕ) → suc i ≡ a → symbol w i ≢ symbol w (i + p)
 left_true w zero p h i e = absurd (omega arith)
 left_true w (suc a) p h i e = let z : i ≡ a = omega arith in rw z (differ (symbol w a) (symbol w (a + p)) h)

@@ -10,13 +10,6 @@ use Rattle.runs.specs.Listing.{stride_of, flat_by}
 abbrev pub scratch_rows : ℕ
 scratch_rows = 4
 
--- the longest of the words that get small arrays, and of those that get arrays of middle size
-abbrev pub short_limit : ℕ
-short_limit = 64
-
-abbrev pub middle_limit : ℕ
-middle_limit = 4096
-
 -- the word is within the limit, and each row has a place for every boundary of it
 abbrev pub Scratch : List ℕ → List ℕ → Type 0
 Scratch w s = (length w ≤ limit) × (scratch_rows * (length w + 1) ≤ length s)

@@ -1,15 +1,18 @@
 // For the library's own crates: the caller shows what each function requires.
-ghost use Rattle.std.specs.Prelude.{◌≡◌, ◌*◌, ◌≤◌, ◌<◌, ◌^◌, length};
+// Kept: w, listing, scratch and table go together; a struct of them was tried, and each method needed four
+// more clauses, on the names of the lent tables and their lengths.
+ghost use Rattle.std.specs.Prelude.{◌≡◌, ◌+◌, ◌*◌, ◌≤◌, ◌<◌, ◌^◌, length};
 ghost use Rattle.std.proofs.lemmas.List.Edits.{sets};
 ghost use Rattle.runs.specs.Table.{runs_of};
 ghost use Rattle.runs.specs.Listing.{stride_of, flat_by};
 ghost use Rattle.answers.specs.Outcome.{limit};
-ghost use Rattle.periods.specs.Width.{word_of};
-ghost use Rattle.halves.specs.Scratch.{Scratch, short_limit, middle_limit, ends_row, next_row, listed};
+ghost use Rattle.periods.specs.Width.{symbols};
+ghost use Rattle.halves.specs.Scratch.{Scratch, scratch_rows, ends_row, next_row, listed};
 ghost use Rattle.halves.specs.Found.{Solved};
 ghost use Rattle.halves.specs.Kept.{Starts, Roomy, Advances, sum_to, Summed};
 
-use crate::{LEAF, MIDDLE, ROWS, SHORT};
+use crate::{LEAF, LONG_SCRATCH, MIDDLE, MIDDLE_SCRATCH, ROWS, SHORT, SHORT_SCRATCH};
+use periods::Word;
 use runs::Listing;
 
 // All runs between lo and hi. One level of stack for each halving.
@@ -28,40 +31,36 @@ fn solve(w: &[u16], lo: usize, hi: usize, listing: Listing, scratch: &mut [u32],
     crate::node::node(w, lo, m, hi, listing, scratch, table);
 }
 
-// The first n numbers become the sums of those before them; gives the sum of all.
-fn starts(s: &mut [u32], n: usize) -> usize
-    requires { (n ≤ length s.old) × (sum_to s.old n < 2 ^ 32) }
-    ensures value { result ≡ sum_to s.old n }
-    ensures summed { Summed s.old s.new n }
+// Each number becomes the sum of those before it; gives the sum of all.
+fn starts(s: &mut [u32]) -> usize
+    requires { sum_to s.old (length s.old) < 2 ^ 32 }
+    ensures value { result ≡ sum_to s.old (length s.old) }
+    ensures summed { Summed s.old s.new (length s.old) }
 {
-    let mut total: usize = 0;
-    let mut a: usize = 0;
-    while a < n {
-        let count = s[a] as usize;
-        s[a] = total as u32;
+    let mut total: u32 = 0;
+    for place in s.iter_mut() {
+        let count = *place;
+        *place = total;
         total += count;
-        a += 1;
     }
-    total
+    total as usize
 }
 
 // The number of runs. The last row then has, for each boundary, the number from 0 of the first run
-// after it. Nothing is written to the table.
-fn count(w: &[u16], scratch: &mut [u32], table: &mut [u32]) -> usize
+// after it. Nothing is listed.
+fn count(w: &[u16], scratch: &mut [u32]) -> usize
     requires { Scratch w.now scratch.old }
     ensures value { result ≡ length (runs_of w.now) }
     ensures starts { Starts w.now (next_row w.now scratch.new) }
-    ensures table_unchanged { table.new ≡ table.old }
 {
     let n = w.len();
-    let zero: usize = 0;
     let two = 2 * (n + 1);
     let three = 3 * (n + 1);
     let four = 4 * (n + 1);
-    factors::inner::clear(&mut scratch[two..three]);
-    factors::inner::clear(&mut scratch[three..four]);
-    solve(w, zero, n, Listing::Keys, scratch, &mut table[zero..zero]);
-    starts(&mut scratch[three..four], n)
+    scratch[two..four].fill(0);
+    let mut none = [0u32; 0];
+    solve(w, 0, n, Listing::Keys, scratch, &mut none);
+    starts(&mut scratch[three..three + n])
 }
 
 // Writes what is listed of each run.
@@ -70,11 +69,10 @@ fn place(w: &[u16], listing: Listing, scratch: &mut [u32], table: &mut [u32])
     ensures { table.new ≡ sets table.old 0 (flat_by listing (runs_of w.now)) }
 {
     let n = w.len();
-    let zero: usize = 0;
     let two = 2 * (n + 1);
     let three = 3 * (n + 1);
-    factors::inner::clear(&mut scratch[two..three]);
-    solve(w, zero, n, listing, scratch, table);
+    scratch[two..three].fill(0);
+    solve(w, 0, n, listing, scratch, table);
 }
 
 // Lists the runs of a word of 16-bit symbols, in lent scratch.
@@ -83,7 +81,7 @@ fn list_in(w: &[u16], listing: Listing, scratch: &mut [u32], table: &mut [u32]) 
     ensures value { result ≡ length (runs_of w.now) }
     ensures table_after { table.new ≡ listed listing w.now table.old }
 {
-    let total = count(w, scratch, table);
+    let total = count(w, scratch);
     if table.len() < runs::stride(listing) * total {
         return total;
     }
@@ -91,12 +89,21 @@ fn list_in(w: &[u16], listing: Listing, scratch: &mut [u32], table: &mut [u32]) 
     total
 }
 
+// The same in scratch of its own. A function for each size, and not inlined: so a short word does not
+// touch the pages of long ones.
+#[inline(never)]
+fn list_with<const ROOM: usize>(w: &[u16], listing: Listing, table: &mut [u32]) -> usize
+    requires { (length w.now ≤ limit) × (scratch_rows * (length w.now + 1) ≤ ROOM) × (ROOM < 2 ^ 32) }
+    ensures value { result ≡ length (runs_of w.now) }
+    ensures table_after { table.new ≡ listed listing w.now table.old }
+{
+    let mut scratch = [0u32; ROOM];
+    list_in(w, listing, &mut scratch, table)
+}
+
 // Lists the runs of a word of 16-bit symbols, in the lent scratch if the word has room in it, and else in
-// an array by its length. A large array stands in a function that only lends it, and the compiler does not
-// put that one into a function that calls itself, as this one does: so a short word does not touch the
-// pages of long ones.
-#[cycle(list_16_list_long_list_middle)]
-fn list_16(w: &[u16], listing: Listing, scratch: &mut [u32], table: &mut [u32]) -> usize
+// scratch by its length.
+fn list_codes(w: &[u16], listing: Listing, scratch: &mut [u32], table: &mut [u32]) -> usize
     requires { length w.now ≤ limit }
     ensures value { result ≡ length (runs_of w.now) }
     ensures table_after { table.new ≡ listed listing w.now table.old }
@@ -106,90 +113,44 @@ fn list_16(w: &[u16], listing: Listing, scratch: &mut [u32], table: &mut [u32]) 
         return list_in(w, listing, scratch, table);
     }
     if n <= SHORT {
-        let mut short = [0u32; ROWS * (SHORT + 1)];
-        return list_16(w, listing, &mut short, table);
+        return list_with::<SHORT_SCRATCH>(w, listing, table);
     }
     if n <= MIDDLE {
-        return list_middle(w, listing, table);
+        return list_with::<MIDDLE_SCRATCH>(w, listing, table);
     }
-    list_long(w, listing, table)
+    list_with::<LONG_SCRATCH>(w, listing, table)
 }
 
-// The same of at most 4,096 symbols.
-#[cycle(list_16_list_long_list_middle)]
-fn list_middle(w: &[u16], listing: Listing, table: &mut [u32]) -> usize
-    requires { length w.now ≤ middle_limit }
-    ensures value { result ≡ length (runs_of w.now) }
-    ensures table_after { table.new ≡ listed listing w.now table.old }
-{
-    let mut scratch = [0u32; ROWS * (MIDDLE + 1)];
-    list_16(w, listing, &mut scratch, table)
-}
-
-// Of every word within the limit.
-#[cycle(list_16_list_long_list_middle)]
-fn list_long(w: &[u16], listing: Listing, table: &mut [u32]) -> usize
-    requires { length w.now ≤ limit }
-    ensures value { result ≡ length (runs_of w.now) }
-    ensures table_after { table.new ≡ listed listing w.now table.old }
-{
-    let mut scratch = [0u32; ROWS * (answers::LIMIT + 1)];
-    list_16(w, listing, &mut scratch, table)
-}
-
-// Lists the runs of a word of either width: writes what is listed of each run, if the table has places
-// for all of them, and gives their count. Bytes are widened first, into an array by the word's length.
-// What is left in the scratch is not said. Time: n log n, one more logarithm at most on powers.
-#[cycle(list_widened_long_widened_middle)]
-pub fn list(
+// The same of bytes, which are widened first.
+#[inline(never)]
+fn list_widened<const ROOM: usize>(
     bytes: &[u8],
-    codes: &[u16],
-    wide: bool,
     listing: Listing,
     scratch: &mut [u32],
     table: &mut [u32],
 ) -> usize
-    requires { length (word_of wide bytes.now codes.now) ≤ limit }
-    ensures value { result ≡ length (runs_of (word_of wide bytes.now codes.now)) }
-    ensures table_after { table.new ≡ listed listing (word_of wide bytes.now codes.now) table.old }
+    requires { (length bytes.now ≤ limit) × (length bytes.now ≤ ROOM) × (ROOM < 2 ^ 32) }
+    ensures value { result ≡ length (runs_of bytes.now) }
+    ensures table_after { table.new ≡ listed listing bytes.now table.old }
 {
-    if !wide {
-        let n = bytes.len();
-        if n <= SHORT {
-            let mut symbols = [0u16; SHORT];
-            widening::inner::widen(bytes, &mut symbols);
-            return list(bytes, &symbols[0..n], true, listing, scratch, table);
-        }
-        if n <= MIDDLE {
-            return widened_middle(bytes, listing, scratch, table);
-        }
-        return widened_long(bytes, listing, scratch, table);
+    let n = bytes.len();
+    let mut wide = [0u16; ROOM];
+    widening::inner::widen(bytes, &mut wide);
+    list_codes(&wide[..n], listing, scratch, table)
+}
+
+// Lists the runs of a word: writes what is listed of each run, if the table has places for all of them,
+// and gives their count. What is left in the scratch is not said. Time: n log n, one more logarithm at
+// most on powers.
+pub fn list(w: Word, listing: Listing, scratch: &mut [u32], table: &mut [u32]) -> usize
+    requires { length (symbols w) ≤ limit }
+    ensures value { result ≡ length (runs_of (symbols w.entry)) }
+    ensures table_after { table.new ≡ listed listing (symbols w.entry) table.old }
+{
+    match w {
+        Word::Codes(s) => list_codes(s, listing, scratch, table),
+        Word::Bytes(s) if s.len() <= SHORT => list_widened::<SHORT>(s, listing, scratch, table),
+        Word::Bytes(s) if s.len() <= MIDDLE => list_widened::<MIDDLE>(s, listing, scratch, table),
+        Word::Bytes(s) => list_widened::<{ answers::LIMIT }>(s, listing, scratch, table),
     }
-    list_16(codes, listing, scratch, table)
-}
-
-// The same of at most 4,096 bytes.
-#[cycle(list_widened_long_widened_middle)]
-fn widened_middle(bytes: &[u8], listing: Listing, scratch: &mut [u32], table: &mut [u32]) -> usize
-    requires { length bytes.now ≤ middle_limit }
-    ensures value { result ≡ length (runs_of bytes.now) }
-    ensures table_after { table.new ≡ listed listing bytes.now table.old }
-{
-    let n = bytes.len();
-    let mut symbols = [0u16; MIDDLE];
-    widening::inner::widen(bytes, &mut symbols);
-    list(bytes, &symbols[0..n], true, listing, scratch, table)
-}
-
-// Of every word of bytes within the limit.
-#[cycle(list_widened_long_widened_middle)]
-fn widened_long(bytes: &[u8], listing: Listing, scratch: &mut [u32], table: &mut [u32]) -> usize
-    requires { length bytes.now ≤ limit }
-    ensures value { result ≡ length (runs_of bytes.now) }
-    ensures table_after { table.new ≡ listed listing bytes.now table.old }
-{
-    let n = bytes.len();
-    let mut symbols = [0u16; answers::LIMIT];
-    widening::inner::widen(bytes, &mut symbols);
-    list(bytes, &symbols[0..n], true, listing, scratch, table)
 }

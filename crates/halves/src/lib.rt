@@ -17,3 +17,10 @@ pub const SHORT: usize = 64;
 
 // those of at most so many arrays of this size, and others arrays of the limit's.
 pub const MIDDLE: usize = 4096;
+
+// The scratch of the finder for words of each of these lengths.
+const SHORT_SCRATCH: usize = ROWS * (SHORT + 1);
+
+const MIDDLE_SCRATCH: usize = ROWS * (MIDDLE + 1);
+
+const LONG_SCRATCH: usize = ROWS * (answers::LIMIT + 1);

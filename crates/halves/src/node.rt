@@ -17,21 +17,15 @@ fn left_maximal(w: &[u16], a: usize, p: usize) -> bool
     requires { a + p ≤ length w.now }
     ensures { result ≡ left? w.now a p }
 {
-    if a == 0 {
-        return true;
-    }
-    w[a - 1] != w[a - 1 + p]
+    a == 0 || w[a - 1] != w[a - 1 + p]
 }
 
-// Nor, up to boundary b, to the right. The word ends at n.
-fn right_maximal(w: &[u16], n: usize, b: usize, p: usize) -> bool
-    requires { (n ≡ length w.now) × (p ≤ b) × (b ≤ n) }
+// Nor, up to boundary b, to the right.
+fn right_maximal(w: &[u16], b: usize, p: usize) -> bool
+    requires { (p ≤ b) × (b ≤ length w.now) }
     ensures { result ≡ right? w.now b p }
 {
-    if b == n {
-        return true;
-    }
-    w[b] != w[b - p]
+    b == w.len() || w[b] != w[b - p]
 }
 
 // Stores the record of the run with period p between the boundaries a and b as number i of the table
@@ -64,15 +58,13 @@ fn put_mark(a: usize, b: usize, p: usize, turns: u32, x: u32, table: &mut [u32],
         period: p as u32,
         root: 0,
     };
-    if runs::inner::is_node(run, turns, x) {
-        runs::inner::store(table, i, 1);
-        return;
-    }
-    runs::inner::store(table, i, 0);
+    let mark = u32::from(runs::inner::is_node(run, turns, x));
+    runs::inner::store(table, i, mark);
 }
 
 // Stores what is listed of the run with period p between the boundaries a and b as number i of the
 // table from 0, as far as the table has the places.
+// Kept: `entry_of` of the clauses is over the listing, which a closure would not have.
 fn put_run(w: &[u16], a: usize, b: usize, p: usize, listing: Listing, table: &mut [u32], i: usize)
     requires { (i < 2 ^ 32) × (length w.now ≤ limit) × (b ≤ length w.now) × (a + 2 * p ≤ length w.now) × SmallestPeriod (part w.now a (a + 2 * p)) p }
     ensures { table.new ≡ sets table.old (stride_of listing * i) (entry_of listing (new_record w.now a b p)) }
@@ -86,6 +78,7 @@ fn put_run(w: &[u16], a: usize, b: usize, p: usize, listing: Listing, table: &mu
 
 // Records the run with period p between the boundaries a and b, which ends later than all that were
 // found after a.
+#[tactic(auto, using(crate::proofs::Added::new_start, crate::proofs::Added::next_small))]
 fn add_run(
     w: &[u16],
     a: usize,
@@ -129,20 +122,15 @@ pub(crate) fn attempt(
     if left + right < p {
         return;
     }
-    let n = w.len();
     let a = c - left;
     let b = c + p + right;
-    let end = 2 * (n + 1) + a;
+    let end = 2 * (w.len() + 1) + a;
     if b <= scratch[end] as usize {
         return;
     }
-    if !left_maximal(w, a, p) {
-        return;
+    if left_maximal(w, a, p) && right_maximal(w, b, p) {
+        add_run(w, a, b, p, listing, scratch, table);
     }
-    if !right_maximal(w, n, b, p) {
-        return;
-    }
-    add_run(w, a, b, p, listing, scratch, table);
 }
 
 // Tries the longest part of period p around the p symbols after boundary m, between lo and hi.
@@ -205,10 +193,9 @@ fn fill_tables(w: &[u16], lo: usize, m: usize, hi: usize, scratch: &mut [u32])
     ensures tables { Tables w.now lo m hi (prefix_row w.now scratch.new) (suffix_row w.now scratch.new) }
     ensures same { SameRecords w.now scratch.old scratch.new }
 {
-    let zero: usize = 0;
     let row = w.len() + 1;
     let two = row + row;
-    prefixes::inner::matches(&w[lo..hi], false, m - lo, &mut scratch[zero..row]);
+    prefixes::inner::matches(&w[lo..hi], false, m - lo, &mut scratch[0..row]);
     prefixes::inner::matches(&w[lo..hi], true, hi - m, &mut scratch[row..two]);
 }
 
@@ -228,10 +215,8 @@ pub(crate) fn node(
 {
     fill_tables(w, lo, m, hi, scratch);
     let half = (hi - lo) / 2;
-    let mut p: usize = 1;
-    while p <= half {
+    for p in 1..half + 1 {
         above(w, lo, m, hi, p, listing, scratch, table);
         below(w, lo, m, hi, p, listing, scratch, table);
-        p += 1;
     }
 }

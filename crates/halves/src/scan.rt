@@ -21,18 +21,15 @@ fn scan_period(
     ensures keeps { Advances listing w.now scratch.old table.old scratch.new table.new }
     ensures below { Below w.now lo hi (p + 1) (ends_row w.now scratch.new) }
 {
+    let end = hi - p;
     let mut start = lo;
-    let mut at = lo;
-    while at + p < hi {
-        if w[at] == w[at + p] {
-            at += 1;
-            continue;
+    for at in lo..end {
+        if w[at] != w[at + p] {
+            crate::node::attempt(w, start, p, 0, at - start, listing, scratch, table);
+            start = at + 1;
         }
-        crate::node::attempt(w, start, p, 0, at - start, listing, scratch, table);
-        at += 1;
-        start = at;
     }
-    crate::node::attempt(w, start, p, 0, at - start, listing, scratch, table);
+    crate::node::attempt(w, start, p, 0, end - start, listing, scratch, table);
 }
 
 // All runs between lo and hi. Time quadratic in the part.
@@ -49,9 +46,7 @@ pub(crate) fn scan(
     ensures solved { Solved w.now lo hi (ends_row w.now scratch.new) }
 {
     let half = (hi - lo) / 2;
-    let mut p: usize = 1;
-    while p <= half {
+    for p in 1..half + 1 {
         scan_period(w, lo, hi, p, listing, scratch, table);
-        p += 1;
     }
 }

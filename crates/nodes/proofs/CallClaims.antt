@@ -1,6 +1,6 @@
 -- What the nodes call answers and writes means what the documents say, for every word, edition, position and table: `nodes_mean`. One law for each outcome
 -- gives both from the tests that lead to it. By the order of the tests in the definitions. Assumes nothing.
-use mathlib.Core.Path.{◌≡◌, refl, sym, ap, ◌∙◌}
+use mathlib.Core.Path.{◌≡◌, refl, sym}
 use mathlib.Core.Bool.{true, false, ◌||◌, or-true}
 use mathlib.Core.List.{List, [], ◌∷◌, ◌++◌}
 use Prim.Native.Nat.{ℕ, ◌≤◌, ◌<◌}
@@ -9,17 +9,16 @@ use native.Mathlib.Decide.{dec_lt, dec_le}
 use borrow.Author.Tests.{lt-ltb, le-ltb}
 use lib.Dec.{ltb}
 use lib.ListN.{length, drop}
-use lib.Seq.{sets}
 use Rattle.answers.specs.Outcome.{Outcome, accepted, refused, limit}
 use Rattle.periods.specs.Period.{held_period}
 use Rattle.periods.specs.Edition.{Edition, turns_of}
 use Rattle.periods.proofs.Editions.{test_of_edition, test_of_no_edition, edition?}
 use Rattle.runs.specs.Table.{runs_of}
 use Rattle.nodes.specs.Node.{nodes_at}
+use Rattle.nodes.specs.Inner.{listed_outcome, listed_table}
 use Rattle.nodes.specs.Calls.{nodes_outcome, nodes_table, NodesMeaning, ListsNodes}
 use Rattle.runs.proofs.Listed.{runs_listed}
 use Rattle.nodes.proofs.WhiteNodes.{nodes_listed}
-use Rattle.laws.proofs.Stores.{stored_front}
 use Rattle.nodes.specs.Calls as calls
 
 abbrev pub NodesGive : List ℕ → ℕ → ℕ → List ℕ → Outcome → List ℕ → Type 0
@@ -66,28 +65,19 @@ module _ (w : List ℕ) (edition x : ℕ) where
         simp (le-ltb limit (length w) h, test_of_edition edition i, outside_tests k),
       )
 
-      pub nodes_few : Inside w x → length t < length numbers → NodesGive w edition x t (refused 7 0) t
+      -- once the tests are passed, the count decides
+      pub nodes_passed : Inside w x → NodesGive w edition x t (listed_outcome numbers (length t)) (listed_table numbers t)
       unfolding nodes_outcome nodes_table
-      nodes_few k l = (
-        simp (le-ltb limit (length w) h, test_of_edition edition i, within_tests k, lt-ltb (length t) (length numbers) l),
-        simp (le-ltb limit (length w) h, test_of_edition edition i, within_tests k, lt-ltb (length t) (length numbers) l),
+      nodes_passed k = (
+        simp (le-ltb limit (length w) h, test_of_edition edition i, within_tests k),
+        simp (le-ltb limit (length w) h, test_of_edition edition i, within_tests k),
       )
+
+      pub nodes_few : Inside w x → length t < length numbers → NodesGive w edition x t (refused 7 0) t
+      nodes_few k l = rw (lt-ltb (length t) (length numbers) l) at (nodes_passed k)
 
       pub nodes_all : Inside w x → length numbers ≤ length t → NodesGive w edition x t (accepted (length numbers ∷ [])) (numbers ++ drop (length numbers) t)
-      unfolding nodes_outcome nodes_table
-      nodes_all k l = (
-        simp (le-ltb limit (length w) h, test_of_edition edition i, within_tests k, le-ltb (length t) (length numbers) l),
-        simp (le-ltb limit (length w) h, test_of_edition edition i, within_tests k, le-ltb (length t) (length numbers) l),
-      )
-
-      pub nodes_too_few : (u : List ℕ) (count : ℕ) → Inside w x → count ≡ length numbers → u ≡ t → length t < count → NodesGive w edition x t (refused 7 0) u
-      nodes_too_few u count k e f l = let g = nodes_few k (omega arith) in (g.0, f ∙ g.1)
-
-      pub nodes_written : (u v : List ℕ) (count : ℕ) → Inside w x → count ≡ length numbers → u ≡ t → count ≤ length t
-          → v ≡ sets u 0 numbers → NodesGive w edition x t (accepted (count ∷ [])) v
-      nodes_written u v count k e f l s =
-          let g = nodes_all k (omega arith) in
-          (ap (λ (n : ℕ). accepted (n ∷ [])) e ∙ g.0, stored_front t u v numbers (length numbers) f s refl (omega arith) ∙ g.1)
+      nodes_all k l = rw (le-ltb (length t) (length numbers) l) at (nodes_passed k)
 
     -- CLAIM: what the nodes call answers and writes means what the documents say
     pub nodes_mean : NodesMeaning w edition x t (nodes_outcome w edition x (length t)) (nodes_table w edition x t)
@@ -109,6 +99,5 @@ module _ (w : List ℕ) (edition x : ℕ) where
         go (no h) (no i) = let g = nodes_bad_edition (omega arith) i in calls.NodesMeaning.bad_edition (omega arith) i (sym g.0) (sym g.1)
         go (no h) (yes i) = known (omega arith) i (dec_le 1 x) (dec_le x (length w)) (dec_lt (length t) (length numbers))
 
-    pub nodes_answered : (o : Outcome) (u : List ℕ) → NodesGive w edition x t o u
-        → (o ≡ nodes_outcome w edition x (length t)) × ((u ≡ nodes_table w edition x t) × NodesMeaning w edition x t o u)
-    nodes_answered o u g = (g.0, (g.1, rw (g.0, g.1) nodes_mean))
+    pub nodes_given : (o : Outcome) (u : List ℕ) → NodesGive w edition x t o u → NodesMeaning w edition x t o u
+    nodes_given o u g = rw (g.0, g.1) nodes_mean

@@ -12,7 +12,6 @@ use lib.ListN.{length, get_or, take, drop}
 use lib.Seq.{take-suc, take_at, length-take-le}
 use Rattle.laws.proofs.Stores.{sets-front}
 use Rattle.periods.specs.Period.{held_period}
-use Rattle.periods.specs.Edition.{turns_of}
 use Rattle.runs.specs.declared.Record.{Record}
 use Rattle.runs.specs.declared.Listing.TheVariants.{Marks}
 use Rattle.runs.specs.Table.{runs_of}
@@ -82,7 +81,7 @@ module _ (w t u : List ℕ) (k x count : ℕ) (h : length w ≤ length t) (e : c
       let l : length marks ≡ count = omega (arith, length-flat_by (Marks k x) (runs_of w)) in
       ap (take count) (f ∙ listed_enough (Marks k x) w t (omega arith) ∙ sets-front t marks (omega (arith, table_at_most w))) ∙ take_at marks (drop (length marks) t) count l
 
-  -- the numbers that are picked among them, by the turn number of an edition
-  pub marks_picked : (edition : ℕ) → k ≡ turns_of edition → marked 0 (take count u) ≡ nodes_at held_period (turns_of edition) w x
+  -- the numbers that are picked among them
+  pub marks_picked : marked 0 (take count u) ≡ nodes_at held_period k w x
   unfolding nodes_at
-  marks_picked edition g = ap (marked 0) front ∙ marks_numbers k x 0 (runs_of w) ∙ ap (λ (j : ℕ). numbers_where (node? held_period j x) 0 (runs_of w)) g
+  marks_picked = ap (marked 0) front ∙ marks_numbers k x 0 (runs_of w)

@@ -1,154 +1,82 @@
 // For this crate's calls: the caller shows what each function requires.
-ghost use Rattle.std.specs.Prelude.{◌≡◌, ◌≤◌, length, take};
+ghost use Rattle.std.specs.Prelude.{◌≡◌, ◌≤◌, ◌<◌, ◌^◌, length};
 ghost use Rattle.std.proofs.lemmas.List.Edits.{sets};
 ghost use Rattle.answers.specs.Outcome.{counted_view, limit};
-ghost use Rattle.periods.specs.Width.{word_of};
-ghost use Rattle.halves.specs.Scratch.{middle_limit};
+ghost use Rattle.periods.specs.Period.{held_period};
+ghost use Rattle.periods.specs.Edition.{turns_in};
+ghost use Rattle.periods.specs.Width.{symbols};
 ghost use Rattle.nodes.specs.Calls.{nodes_outcome, nodes_table, NodesMeaning};
-ghost use Rattle.nodes.specs.Inner.{Tested, marked};
+ghost use Rattle.nodes.specs.Node.{nodes_at};
+ghost use Rattle.nodes.specs.Inner.{marked, listed_outcome, listed_table};
 
-use answers::{Counted, Refusal};
+use answers::Refusal;
+use periods::{Edition, Word};
 use runs::Listing;
 
-// Of the first count marks, writes the numbers from 1 of those that are set, as far as the table has
-// places, and gives their count.
-fn pick(marks: &[u32], count: usize, out: &mut [u32]) -> usize
-    requires { (count ≤ length marks.now) × (count ≤ limit) }
-    ensures value { result ≡ length (marked 0 (take count marks.now)) }
-    ensures out_after { out.new ≡ sets out.old 0 (marked 0 (take count marks.now)) }
+// Of the marks, writes the numbers from 1 of those that are set, as far as the table has places, and
+// gives their count.
+fn pick(marks: &[u32], out: &mut [u32]) -> usize
+    requires { length marks.now ≤ limit }
+    ensures value { result ≡ length (marked 0 marks.now) }
+    ensures out_after { out.new ≡ sets out.old 0 (marked 0 marks.now) }
 {
     let mut found: usize = 0;
-    let mut i: usize = 0;
-    while i < count {
-        if marks[i] != 1 {
-            i += 1;
-            continue;
+    for (i, mark) in marks.iter().enumerate() {
+        if *mark == 1 {
+            runs::inner::store(out, found, (i + 1) as u32);
+            found += 1;
         }
-        i += 1;
-        runs::inner::store(out, found, i as u32);
-        found += 1;
     }
     found
 }
 
-// The nodes call once its refusals 1, 12 and 6 are ruled out, over lent places for a mark of each run.
-fn nodes_in(
-    bytes: &[u8],
-    codes: &[u16],
-    wide: bool,
-    edition: u32,
+// The nodes call once its refusals 1, 12 and 6 are ruled out, over a mark of each run. A function for each
+// size of the marks, and not inlined: so a short word does not touch the pages of long ones.
+#[inline(never)]
+#[tactic(auto, using(runs::proofs::Few::table_at_most))]
+fn nodes_with<const ROOM: usize>(
+    w: Word,
+    edition: Edition,
     x: u32,
-    marks: &mut [u32],
     table: &mut [u32],
-) -> Counted
-    requires { Tested (word_of wide bytes.now codes.now) edition x × (length (word_of wide bytes.now codes.now) ≤ length marks.old) }
-    ensures result_value { counted_view result ≡ nodes_outcome (word_of wide bytes.now codes.now) edition x (length table.old) }
-    ensures table_after { table.new ≡ nodes_table (word_of wide bytes.now codes.now) edition x table.old }
+) -> Result<u32, Refusal>
+    requires { (length (symbols w) ≤ limit) × (length (symbols w) ≤ ROOM) × (ROOM < 2 ^ 32) }
+    ensures result_value { counted_view result ≡ listed_outcome (nodes_at held_period (turns_in edition) (symbols w.entry) x) (length table.old) }
+    ensures table_after { table.new ≡ listed_table (nodes_at held_period (turns_in edition) (symbols w.entry) x) table.old }
 {
-    let turns = periods::turns(edition) as u32;
+    let mut marks = [0u32; ROOM];
     let mut none = [0u32; 0];
-    let listing = Listing::Marks(turns, x);
-    let count = halves::inner::list(bytes, codes, wide, listing, &mut none, marks);
-    // an empty part of the table: its bounds are locals, as the borrow checker wants those of a part
-    let zero: usize = 0;
-    let found = pick(marks, count, &mut table[zero..zero]);
+    let listing = Listing::Marks(edition.turns() as u32, x);
+    let count = halves::inner::list(w, listing, &mut none, &mut marks);
+    let listed = &marks[..count];
+    let found = pick(listed, &mut none);
     if table.len() < found {
-        return Counted::Refused(Refusal::TooFewPlaces);
+        return Err(Refusal::TooFewPlaces);
     }
-    pick(marks, count, table);
-    Counted::Count(found as u32)
+    pick(listed, table);
+    Ok(found as u32)
 }
 
-// The same where the lent places may be too few: then one of the next two lends more, as
-// halves::inner::list_16 does.
-#[cycle(nodes_at_nodes_long_nodes_middle)]
-fn nodes_at(
-    bytes: &[u8],
-    codes: &[u16],
-    wide: bool,
-    edition: u32,
-    x: u32,
-    marks: &mut [u32],
-    table: &mut [u32],
-) -> Counted
-    requires { Tested (word_of wide bytes.now codes.now) edition x }
-    ensures result_value { counted_view result ≡ nodes_outcome (word_of wide bytes.now codes.now) edition x (length table.old) }
-    ensures table_after { table.new ≡ nodes_table (word_of wide bytes.now codes.now) edition x table.old }
+// The nodes call.
+pub(crate) fn nodes(w: Word, edition: u32, position: u32, table: &mut [u32]) -> Result<u32, Refusal>
+    ensures result_value { counted_view result ≡ nodes_outcome (symbols w.entry) edition position (length table.old) }
+    ensures table_after { table.new ≡ nodes_table (symbols w.entry) edition position table.old }
+    ensures nodes_meaning { NodesMeaning (symbols w.entry) edition position table.old (counted_view result) table.new }
 {
-    let n = periods::either::length(bytes, codes, wide);
-    if n <= marks.len() {
-        return nodes_in(bytes, codes, wide, edition, x, marks, table);
+    let n = w.len();
+    if answers::LIMIT < n {
+        return Err(Refusal::TooLong);
+    }
+    let edition = Edition::try_from(edition)?;
+    let place = position as usize;
+    if place < 1 || n < place {
+        return Err(Refusal::BadPosition);
     }
     if n <= halves::SHORT {
-        let mut short = [0u32; halves::SHORT];
-        return nodes_at(bytes, codes, wide, edition, x, &mut short, table);
+        return nodes_with::<{ halves::SHORT }>(w, edition, position, table);
     }
     if n <= halves::MIDDLE {
-        return nodes_middle(bytes, codes, wide, edition, x, table);
+        return nodes_with::<{ halves::MIDDLE }>(w, edition, position, table);
     }
-    nodes_long(bytes, codes, wide, edition, x, table)
-}
-
-#[cycle(nodes_at_nodes_long_nodes_middle)]
-fn nodes_middle(
-    bytes: &[u8],
-    codes: &[u16],
-    wide: bool,
-    edition: u32,
-    x: u32,
-    table: &mut [u32],
-) -> Counted
-    requires { Tested (word_of wide bytes.now codes.now) edition x × (length (word_of wide bytes.now codes.now) ≤ middle_limit) }
-    ensures result_value { counted_view result ≡ nodes_outcome (word_of wide bytes.now codes.now) edition x (length table.old) }
-    ensures table_after { table.new ≡ nodes_table (word_of wide bytes.now codes.now) edition x table.old }
-{
-    let mut marks = [0u32; halves::MIDDLE];
-    nodes_at(bytes, codes, wide, edition, x, &mut marks, table)
-}
-
-#[cycle(nodes_at_nodes_long_nodes_middle)]
-fn nodes_long(
-    bytes: &[u8],
-    codes: &[u16],
-    wide: bool,
-    edition: u32,
-    x: u32,
-    table: &mut [u32],
-) -> Counted
-    requires { Tested (word_of wide bytes.now codes.now) edition x }
-    ensures result_value { counted_view result ≡ nodes_outcome (word_of wide bytes.now codes.now) edition x (length table.old) }
-    ensures table_after { table.new ≡ nodes_table (word_of wide bytes.now codes.now) edition x table.old }
-{
-    let mut marks = [0u32; answers::LIMIT];
-    nodes_at(bytes, codes, wide, edition, x, &mut marks, table)
-}
-
-// The nodes call, of a word of either width.
-pub(crate) fn nodes(
-    bytes: &[u8],
-    codes: &[u16],
-    wide: bool,
-    edition: u32,
-    position: u32,
-    table: &mut [u32],
-) -> Counted
-    ensures result_value { counted_view result ≡ nodes_outcome (word_of wide bytes.now codes.now) edition position (length table.old) }
-    ensures table_after { table.new ≡ nodes_table (word_of wide bytes.now codes.now) edition position table.old }
-    ensures nodes_meaning { NodesMeaning (word_of wide bytes.now codes.now) edition position table.old (counted_view result) table.new }
-{
-    let n = periods::either::length(bytes, codes, wide);
-    if answers::LIMIT < n {
-        return Counted::Refused(Refusal::TooLong);
-    }
-    if periods::bad_edition(edition) {
-        return Counted::Refused(Refusal::BadEdition);
-    }
-    if position < 1 {
-        return Counted::Refused(Refusal::BadPosition);
-    }
-    if n < position as usize {
-        return Counted::Refused(Refusal::BadPosition);
-    }
-    let mut none = [0u32; 0];
-    nodes_at(bytes, codes, wide, edition, position, &mut none, table)
+    nodes_with::<{ answers::LIMIT }>(w, edition, position, table)
 }

@@ -2,13 +2,15 @@
 -- shorter than its column, so it fills it with its spaces; one more number, one more symbol, and one digit of a symbol. By computing the table, and by induction
 -- on the lists. Assumes nothing.
 use mathlib.Core.Path.{◌≡◌, refl, sym, ap, ap₂, ◌∙◌}
-use mathlib.Core.List.{List, [], ◌∷◌, ◌++◌}
+use mathlib.Core.List.{List, [], ◌∷◌, ◌++◌, append_assoc}
 use Prim.Native.Nat.{ℕ, zero, suc, ◌+◌, ◌-◌, ◌*◌, ◌/◌, ◌%◌, ◌≤◌, ◌<◌}
 use native.Mathlib.Omega.{arith}
 use native.Mathlib.Decide.{dec_lt}
 use native.Mathlib.Nat.{mul-suc, pow-le-pow_right}
 use native.Mathlib.Numerals.{add-one}
-use lib.ListN.{length, get_or, set, take, drop, length-append, length-replicate, drop_of_length-le}
+use borrow.Rule.Slice.PartMut.{put_mid, Post-is}
+use lib.ListN.{length, get_or, set, take, drop, length-append, length-take, length-drop, length-replicate, drop_of_length-le}
+use Rattle.std.proofs.lemmas.List.Edits.{sets-eq}
 use lib.Seq.{sets, set_comm, drop-cons, take-nil}
 use Rattle.laws.proofs.Stores.{sets-append}
 use Rattle.decimals.specs.Decimal.{digits_in, digits, digit_count, plain}
@@ -95,6 +97,15 @@ number_short c x l h = rw (number_width c l) (go (dec_lt x 10))
 
 pub right_length : (width x : ℕ) → length (plain x) ≤ width → length (right_aligned width x) ≡ width
 right_length width x h = omega (arith, length-append (spaces (width - length (plain x))) (plain x), length-replicate (width - length (plain x)) space)
+
+-- a part that is spaces now
+pub spaces_stored : (t ys : List ℕ) (at count : ℕ) → at + count ≤ length t → ys ≡ spaces (length (take (at + count - at) (drop at t))) → put_mid at (at + count - at) t ys ≡ sets t at (spaces count)
+spaces_stored t ys at count h e =
+    let blank : ys ≡ spaces count = e ∙ ap spaces (omega (arith, length-take (at + count - at) (drop at t), length-drop at t)) in
+    ap₂ (λ (xs zs : List ℕ). take at t ++ (xs ++ zs)) blank (Post-is at (at + count) t (omega arith))
+    ∙ sym (append_assoc (take at t) (spaces count) (drop (at + count) t))
+    ∙ ap (λ (n : ℕ). take at t ++ spaces count ++ drop (at + n) t) (sym (length-replicate count space))
+    ∙ sym (sets-eq (spaces count) t at (omega (arith, length-replicate count space)))
 
 -- its spaces, and then its digits
 pub right_stored : (t u v : List ℕ) (at width x k : ℕ) → k ≡ digit_count 9 x → u ≡ sets t at (spaces (width - k)) → v ≡ sets u (at + (width - k)) (digits k x)

@@ -1,4 +1,4 @@
--- A line, of any form that fits, is one line of 60 characters and byte 10, which stands nowhere else (line_is_one); each of its columns reads as its number
+-- A line, of any form, is one line of 60 characters and byte 10, which stands nowhere else (line_is_one); each of its columns reads as its number
 -- (column_reads). By induction on the lists: columns and symbols fill the places that they have, and digits and spaces are other bytes. Assumes nothing.
 use mathlib.Core.Path.{◌≡◌, refl, sym, ap, ◌∙◌, subst}
 use mathlib.Core.Logic.{◌≢◌}
@@ -6,18 +6,19 @@ use mathlib.Core.Bool.{Bool, true, not, ◌&&◌}
 use mathlib.Core.List.{List, [], ◌∷◌, ◌++◌, append_assoc}
 use Prim.Native.Nat.{ℕ, zero, suc, ◌+◌, ◌-◌, ◌*◌, ◌/◌, ◌%◌, ◌^◌, ◌≤◌, ◌<◌, min}
 use native.Mathlib.Omega.{arith}
-use native.Mathlib.Nat.{zero-min, min-zero, suc-min-suc, mul-le-mul_left}
+use native.Mathlib.Decide.{dec_lt}
+use native.Mathlib.Nat.{mul-le-mul_left}
 use borrow.Author.Tests.{eq-eqb}
 use lib.Dec.{T, eqb}
 use lib.ListN.{length, get_or, set, take, drop, length-append, length-take, length-replicate}
-use lib.Seq.{sets, take_at, drop-append-add}
+use lib.Seq.{sets, take_at, take_all, drop-append-add}
 use Rattle.laws.proofs.Tests.{and_left, and_right}
 use Rattle.decimals.specs.Decimal.{digits_in, digit_count, plain, digit?, digits?, value, spelled, line_end, field}
 use Rattle.decimals.proofs.Claims.{digit_low, digits_are_digits, plain_value}
 use Rattle.decimals.proofs.Fields.{at_most_at}
 use Rattle.writers.proofs.Stores.{stored, left_all, left_less, left_last}
-use Rattle.page_lines.specs.Line.{widths, width_of, sum, start_of, number_columns, line_width, line_bytes, space, spaces, right_aligned, columns, hex_bytes, hex_byte, hex_digits, symbols, left_aligned, unit_column, byte_form, code_form, Fits, line, NoEnd, OneLine, greatest, LineNumbers}
-use Rattle.page_lines.specs.declared.Form.{Form}
+use Rattle.page_lines.specs.Line.{widths, width_of, sum, start_of, number_columns, line_width, line_bytes, space, spaces, right_aligned, columns, hex_bytes, hex_byte, hex_digits, symbols, left_aligned, unit_column, Fits, line, NoEnd, OneLine, greatest, LineNumbers}
+use Rattle.page_lines.specs.declared.form.Form.{Form}
 use Rattle.page_lines.proofs.Columns.{start_unit, right_length, line_number_short, symbols-length}
 
 -- ---- how long the columns are
@@ -39,21 +40,19 @@ module _ (numbers : List ℕ) (N : LineNumbers numbers) where
   numbers_length : length (columns widths numbers) ≡ start_of number_columns
   numbers_length = columns-length widths numbers fits (omega arith) ∙ ap start_of N.0
 
-pub byte_form_fits : Fits byte_form
-byte_form_fits = omega arith
-
-pub code_form_fits : Fits code_form
-code_form_fits = omega arith
+-- CLAIM: each form fits
+pub form_fits : (form : Form) → Fits form
+form_fits form = form.fits
 
 -- the symbols that are shown fit into the last column
-pub shown_fit : (form : Form) → Fits form → (unit : List ℕ) (k : ℕ) → k ≤ form.shown → form.digits * length (take k unit) ≤ width_of number_columns
-shown_fit form F unit k h = omega (arith, mul-le-mul_left {m = length (take k unit)} {n = form.shown} form.digits (omega (arith, length-take k unit)))
+pub shown_fit : (form : Form) → (unit : List ℕ) (k : ℕ) → k ≤ form.shown → form.digits * length (take k unit) ≤ width_of number_columns
+shown_fit form unit k h = omega (arith, mul-le-mul_left {m = length (take k unit)} {n = form.shown} form.digits (omega (arith, length-take k unit)), form_fits form)
 
 -- the last column is filled up
-unit_length : (form : Form) → Fits form → (unit : List ℕ) → length (unit_column form.digits form.shown unit) ≡ width_of number_columns
-unit_length form F unit =
+unit_length : (form : Form) → (unit : List ℕ) → length (unit_column form.digits form.shown unit) ≡ width_of number_columns
+unit_length form unit =
     let s = symbols form.digits (take form.shown unit) in
-    omega (arith, length-append s (spaces (width_of number_columns - length s)), length-replicate (width_of number_columns - length s) space, symbols-length form.digits (take form.shown unit), shown_fit form F unit form.shown (omega arith))
+    omega (arith, length-append s (spaces (width_of number_columns - length s)), length-replicate (width_of number_columns - length s) space, symbols-length form.digits (take form.shown unit), shown_fit form unit form.shown (omega arith))
 
 pub line_is : (form : Form) (numbers unit : List ℕ) → line form numbers unit ≡ columns widths numbers ++ (unit_column form.digits form.shown unit ++ (line_end ∷ []))
 unfolding line
@@ -61,22 +60,20 @@ line_is form numbers unit = refl
 
 -- ---- stored
 
-take_least : (k : ℕ) (l : List ℕ) → take (min k (length l)) l ≡ take k l
-take_least zero l = ap (λ (j : ℕ). take j l) (zero-min (length l))
-take_least (suc k) [] = ap (λ (j : ℕ). take {A = ℕ} j []) (min-zero (suc k))
-take_least (suc k) (x ∷ l) = ap (λ (j : ℕ). take j (x ∷ l)) (suc-min-suc k (length l)) ∙ ap (λ (r : List ℕ). x ∷ r) (take_least k l)
+take_least : (k : ℕ) (l : List ℕ) → take (min (length l) k) l ≡ take k l
+take_least k l = elim (dec_lt k (length l)) [ yes h ↦ ap (λ (j : ℕ). take j l) {x = min (length l) k} {y = k} (omega arith) | no h ↦ ap (λ (j : ℕ). take j l) {x = min (length l) k} {y = length l} (omega arith) ∙ take_all (length l) l (omega arith) ∙ sym (take_all k l (omega arith)) ]
 
 -- the numbers, the symbols and the line's end, one after the other
-pub line_stored : (form : Form) → Fits form → (t u v numbers unit : List ℕ) (at s width k : ℕ) → LineNumbers numbers → u ≡ sets t at (columns widths numbers)
-    → s ≡ start_of number_columns → width ≡ width_of number_columns → k ≡ min form.shown (length unit)
-    → v ≡ sets u (at + s) (left_aligned width (symbols form.digits (take (k - 0) unit))) → set v (at + line_width) line_end ≡ sets t at (line form numbers unit)
-line_stored form F t u v numbers unit at s width k N e f g h w =
+pub line_stored : (form : Form) → (t u v numbers unit : List ℕ) (at s k : ℕ) → LineNumbers numbers → u ≡ sets t at (columns widths numbers)
+    → s ≡ start_of number_columns → k ≡ min (length unit) form.shown
+    → v ≡ sets u (at + s) (left_aligned (width_of number_columns) (symbols form.digits (take k unit))) → set v (at + line_width) line_end ≡ sets t at (line form numbers unit)
+line_stored form t u v numbers unit at s k N e f h w =
     let front = columns widths numbers in
     let last = unit_column form.digits form.shown unit in
-    let shown : take (k - 0) unit ≡ take form.shown unit = ap (λ (j : ℕ). take j unit) {x = k - 0} {y = k} (omega arith) ∙ ap (λ (j : ℕ). take j unit) h ∙ take_least form.shown unit in
-    let w' : v ≡ sets u (at + start_of number_columns) last = w ∙ rw (f, g, shown) refl in
+    let shown : take k unit ≡ take form.shown unit = ap (λ (j : ℕ). take j unit) h ∙ take_least form.shown unit in
+    let w' : v ≡ sets u (at + start_of number_columns) last = w ∙ rw (f, shown) refl in
     let A = stored t at front u (at + start_of number_columns) (ap (λ (n : ℕ). at + n) (sym (numbers_length numbers N)), e) in
-    let B = stored u (at + start_of number_columns) last v (at + line_width) (omega (arith, unit_length form F unit, start_unit), w') in
+    let B = stored u (at + start_of number_columns) last v (at + line_width) (omega (arith, unit_length form unit, start_unit), w') in
     let C = stored v (at + line_width) (line_end ∷ []) (set v (at + line_width) line_end) (at + line_bytes) (omega arith, refl) in
     (left_last (left_less (line_end ∷ []) (left_less (last ++ (line_end ∷ [])) (left_all t at (line form numbers unit) (front ++ (last ++ (line_end ∷ []))) (line_is form numbers unit)) A) B) C).bytes
 
@@ -138,21 +135,21 @@ unended_unit k shown unit =
     unended_append s (spaces (width_of number_columns - length s)) (unended_symbols k (take shown unit)) (unended_spaces (width_of number_columns - length s))
 
 -- CLAIM: a line is one line of exactly 60 characters and byte 10, which stands nowhere else
-pub line_is_one : (form : Form) → Fits form → (numbers unit : List ℕ) → LineNumbers numbers → OneLine (line form numbers unit)
-line_is_one form F numbers unit N =
+pub line_is_one : (form : Form) → (numbers unit : List ℕ) → LineNumbers numbers → OneLine (line form numbers unit)
+line_is_one form numbers unit N =
     let front = columns widths numbers in
     let last = unit_column form.digits form.shown unit in
     record {
       characters = front ++ last;
-      wide = omega (arith, length-append front last, numbers_length numbers N, unit_length form F unit, start_unit);
+      wide = omega (arith, length-append front last, numbers_length numbers N, unit_length form unit, start_unit);
       unended = unended_append front last (unended_columns widths numbers) (unended_unit form.digits form.shown unit);
       is = line_is form numbers unit ∙ sym (append_assoc front last (line_end ∷ []));
     }
 
 -- so it has 61 bytes
-pub line-length : (form : Form) → Fits form → (numbers unit : List ℕ) → LineNumbers numbers → length (line form numbers unit) ≡ line_bytes
-line-length form F numbers unit N =
-    let L = line_is_one form F numbers unit N in
+pub line-length : (form : Form) → (numbers unit : List ℕ) → LineNumbers numbers → length (line form numbers unit) ≡ line_bytes
+line-length form numbers unit N =
+    let L = line_is_one form numbers unit N in
     omega (arith, ap length L.is, length-append L.characters (line_end ∷ []), L.wide)
 
 -- ---- reading a column
@@ -180,10 +177,15 @@ column_at (width ∷ ws) (x ∷ xs) rest (suc c) h l m =
     ∙ ap (take (get_or ws c 0)) (drop-append-add r (columns ws xs ++ rest) (sum (take c ws)))
     ∙ column_at ws xs rest c (λ d k. h (suc d) (omega arith)) (omega arith) (omega arith)
 
+-- whatever follows the columns of the numbers
+pub numbers_read : (numbers rest : List ℕ) → LineNumbers numbers → (c : ℕ) → c < number_columns → value (field (columns widths numbers ++ rest) (start_of c) (width_of c)) ≡ get_or numbers c 0
+numbers_read numbers rest N c h =
+    ap value (column_at widths numbers rest c (fits numbers N) (omega arith) (omega arith))
+    ∙ right_reads (width_of c) (get_or numbers c 0) (omega (arith, at_most_at greatest numbers c N.1 (omega arith)))
+
 -- CLAIM: each column of a line reads as its number
 pub column_reads : (form : Form) (numbers unit : List ℕ) → LineNumbers numbers → (c : ℕ) → c < number_columns
     → value (field (line form numbers unit) (start_of c) (width_of c)) ≡ get_or numbers c 0
 column_reads form numbers unit N c h =
     ap (λ (s : List ℕ). value (field s (start_of c) (width_of c))) (line_is form numbers unit)
-    ∙ ap value (column_at widths numbers (unit_column form.digits form.shown unit ++ (line_end ∷ [])) c (fits numbers N) (omega arith) (omega arith))
-    ∙ right_reads (width_of c) (get_or numbers c 0) (omega (arith, at_most_at greatest numbers c N.1 (omega arith)))
+    ∙ numbers_read numbers (unit_column form.digits form.shown unit ++ (line_end ∷ [])) N c h

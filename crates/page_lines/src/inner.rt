@@ -1,8 +1,9 @@
 // For the call of pages: the caller shows what each function requires.
-ghost use Rattle.std.specs.Prelude.{◌≡◌, ◌≤◌, ◌<◌, ◌+◌, ◌*◌, min, length};
+// Kept: bytes and a place in them go together, as in `writers`.
+ghost use Rattle.std.specs.Prelude.{◌≡◌, ◌≤◌, ◌<◌, ◌+◌, ◌*◌, length};
 ghost use Rattle.std.proofs.lemmas.List.Edits.{sets};
 ghost use Rattle.decimals.specs.Decimal.{plain};
-ghost use Rattle.page_lines.specs.Line.{widths, width_of, start_of, columns, line, line_bytes, LineNumbers, Fits};
+ghost use Rattle.page_lines.specs.Line.{widths, columns, line, line_bytes, LineNumbers};
 ghost use Rattle.page_lines.specs.Line.{spaces, right_aligned, left_aligned, hex_digits, symbols};
 
 use crate::Form;
@@ -25,30 +26,12 @@ const SPACE: u8 = 32;
 
 const HEX: [u8; 16] = *b"0123456789abcdef";
 
-fn width(c: usize) -> usize
-    requires { c < length widths }
-    ensures { result ≡ width_of c }
-{
-    WIDTHS[c]
-}
-
-fn start(c: usize) -> usize
-    requires { c < length widths }
-    ensures { result ≡ start_of c }
-{
-    STARTS[c]
-}
-
 // Writes so many spaces from place at on.
 fn fill(out: &mut [u8], at: usize, count: usize)
     requires { at + count ≤ length out.old }
     ensures { out.new ≡ sets out.old at (spaces count) }
 {
-    let mut i: usize = 0;
-    while i < count {
-        out[at + i] = SPACE;
-        i += 1;
-    }
+    out[at..at + count].fill(SPACE);
 }
 
 // Writes a number right-aligned into a column.
@@ -68,22 +51,10 @@ fn put_symbol(out: &mut [u8], at: usize, digits: usize, x: u16)
     ensures { out.new ≡ sets out.old at (hex_digits digits x) }
 {
     let mut rest = x;
-    let mut left = digits;
-    while 0 < left {
-        left -= 1;
-        out[at + left] = HEX[(rest % 16) as usize];
+    for left in (0..digits).rev() {
+        out[at + left] = HEX[usize::from(rest % 16)];
         rest /= 16;
     }
-}
-
-// How many symbols of a unit of this length are shown, if so many are at most.
-fn shown_of(most: usize, unit: usize) -> usize
-    ensures { result ≡ min most unit }
-{
-    if unit < most {
-        return unit;
-    }
-    most
 }
 
 // Writes symbols, so many digits each, into a column, and spaces after them.
@@ -91,12 +62,11 @@ fn put_symbols(out: &mut [u8], at: usize, width: usize, digits: usize, shown: &[
     requires { (at + width ≤ length out.old) × (digits * length shown.now ≤ width) }
     ensures { out.new ≡ sets out.old at (left_aligned width (symbols digits shown.now)) }
 {
-    let mut i: usize = 0;
-    while i < shown.len() {
-        put_symbol(out, at + digits * i, digits, shown[i]);
-        i += 1;
+    for (i, x) in shown.iter().enumerate() {
+        put_symbol(out, at + digits * i, digits, *x);
     }
-    fill(out, at + digits * i, width - digits * i);
+    let used = digits * shown.len();
+    fill(out, at + used, width - used);
 }
 
 // Writes numbers into their columns.
@@ -104,27 +74,24 @@ fn put_numbers(out: &mut [u8], at: usize, numbers: &[u32])
     requires { (at + line_bytes ≤ length out.old) × LineNumbers numbers.now }
     ensures { out.new ≡ sets out.old at (columns widths numbers.now) }
 {
-    let mut c: usize = 0;
-    while c < numbers.len() {
-        put_number(out, at + start(c), width(c), numbers[c]);
-        c += 1;
+    for (c, x) in numbers.iter().enumerate() {
+        put_number(out, at + STARTS[c], WIDTHS[c], *x);
     }
 }
 
 // Writes the line of a block's numbers and its unit from place at on.
 pub fn put_line(out: &mut [u8], at: usize, form: Form, numbers: &[u32], unit: &[u16])
-    requires { (at + line_bytes ≤ length out.old) × LineNumbers numbers.now × Fits form }
+    requires { (at + line_bytes ≤ length out.old) × LineNumbers numbers.now }
     ensures { out.new ≡ sets out.old at (line form numbers.now unit.now) }
 {
-    let zero: usize = 0;
-    let shown = shown_of(form.shown, unit.len());
+    let shown = unit.len().min(form.shown);
     put_numbers(out, at, numbers);
     put_symbols(
         out,
-        at + start(UNIT),
-        width(UNIT),
+        at + STARTS[UNIT],
+        WIDTHS[UNIT],
         form.digits,
-        &unit[zero..shown],
+        &unit[..shown],
     );
     out[at + END] = LINE_END;
 }

@@ -4,18 +4,13 @@
 ghost use Rattle.std.specs.Prelude.{◌≡◌};
 ghost use Rattle.page_lines.specs.Line.{byte_form, code_form};
 
+pub mod form;
 pub mod inner;
+
+pub use form::Form;
 
 // The bytes of a line: its columns, and the line's end.
 pub const LINE_BYTES: usize = 61;
-
-// The form of the last column: the hexadecimal digits of each symbol, and how many symbols of a unit are
-// shown at most.
-#[derive(Clone, Copy)]
-pub struct Form {
-    pub digits: usize,
-    pub shown: usize,
-}
 
 // A byte takes two digits, and nine are shown; a 16-bit code takes four, and four are shown.
 const BYTE_DIGITS: usize = 2;

@@ -1,17 +1,28 @@
 -- The page of a split: "Each block of a split becomes one line of exactly 60 characters and byte 10." What the call answers, what it writes, and what that
--- means, for any form of the last column: that of bytes or that of 16-bit codes (`byte_form`, `code_form`).
-use Rattle.std.specs.Prelude.{◌≡◌, cond, List, [], ◌∷◌, ◌++◌, ℕ, suc, ◌+◌, ◌-◌, ◌*◌, ◌/◌, ◌%◌, ◌≤◌, ◌<◌, ltb, length, drop}
+-- means, for any form of the last column; that of bytes and that of 16-bit codes are `byte_form` and `code_form`.
+use Rattle.std.specs.Prelude.{◌≡◌, Bool, true, false, cond, List, [], ◌∷◌, ◌++◌, ℕ, suc, ◌+◌, ◌-◌, ◌*◌, ◌/◌, ◌%◌, ◌≤◌, ◌<◌, ltb, length, drop}
 use Rattle.answers.specs.declared.Refusal.TheVariants.{TooFewPlaces}
 use Rattle.answers.specs.Outcome.{Outcome, accepted, refused, refusal, limit, unless_refused, table_unless}
 use Rattle.periods.specs.Period.{part, SmallestPeriod, smallest_period, held_period}
 use Rattle.periods.specs.Edition.{Edition, turns_of}
+use Rattle.periods.specs.declared.word.Word.{Word}
+use Rattle.periods.specs.Width.{wide?}
 use Rattle.runs.specs.Number.{block_numbers}
 use Rattle.factors.specs.Factorization.{Factorization, text_of_blocks}
 use Rattle.repetitions.specs.Block.{Block}
 use Rattle.repetitions.specs.Judge.{SplitMeaning, split_outcome}
 use Rattle.paths.specs.Graph.{Segment}
-use Rattle.page_lines.specs.declared.Form.{Form}
-use Rattle.page_lines.specs.Line.{line, line_bytes, OneLine}
+use Rattle.page_lines.specs.declared.form.Form.{Form}
+use Rattle.page_lines.specs.Line.{byte_form, code_form, line, line_bytes, OneLine}
+
+-- "A page of 16-bit codes shows .. four lower-case hexadecimal digits each"; "byte pages keep their form": the form by whether symbols are 16-bit codes
+abbrev pub form_of : Bool → Form
+form_of false = byte_form
+form_of true = code_form
+
+-- that of a word's page
+abbrev pub form_in : Word → Form
+form_in w = form_of (wide? w)
 
 -- the line of the block with a number between boundaries i and j
 unfoldable pub page_line : Form → List ℕ → ℕ → ℕ → ℕ → List ℕ

@@ -5,6 +5,7 @@ pub mod PathClaims
 pub mod NumberLaws
 pub mod PathJudgeClaims
 pub mod Latest
+pub mod PairByPair
 pub mod Noting
 pub mod Determined
 pub mod Examples

@@ -1,319 +1,122 @@
-// For the library's own crates: the caller shows what each function requires. Run numbers come from
-// the keys of all runs, in the order of their numbers. The run that encloses a piece and has its unit is
-// the last one with that unit that starts at or before the piece, so the loops over the pieces note each
-// run as they pass its start, at the place of its unit. A function that ends in _in works in keys that it
-// is lent; numbers and follow do so if the lent keys are enough for the word, and else go through one
-// that ends in _middle or _long and lends more, as halves::inner::list_16 does.
-ghost use Rattle.std.specs.Prelude.{◌≡◌, ◌++◌, ◌≤◌, ◌<◌, ◌%◌, length, drop};
+// For this crate's calls: the caller shows what each function requires. A function that ends in _with puts
+// the keys of all runs into a local array. There is one for each of a few sizes, and none is inlined: so a
+// short word does not touch the pages of long ones.
+ghost use Rattle.std.specs.Prelude.{◌≡◌, ◌++◌, ◌≤◌, ◌<◌, ◌%◌, ◌^◌, length, drop};
 ghost use Rattle.answers.specs.Outcome.{counted_view, limit};
 ghost use Rattle.periods.specs.Period.{held_period};
-ghost use Rattle.periods.specs.Edition.{Turns};
-ghost use Rattle.periods.specs.Width.{word_of};
-ghost use Rattle.runs.specs.Listing.{key_step};
+ghost use Rattle.periods.specs.Edition.{turns_in};
+ghost use Rattle.periods.specs.Width.{symbols};
 ghost use Rattle.factors.specs.Verdict.{verdict};
-ghost use Rattle.halves.specs.Scratch.{middle_limit};
 ghost use Rattle.paths.specs.Graph.{ends_of_pairs};
-ghost use Rattle.paths.specs.LookUp.{Keyed, Noted, NextLater, Found};
 ghost use Rattle.paths.specs.Calls.{run_numbers, segment?, path_outcome, path_table, PathMeaning, path_judged_outcome, PathJudgedMeaning};
 ghost use Rattle.paths.specs.Walk.{Factored};
 
-use answers::{Counted, Refusal};
-use runs::{KEY_STEP, Listing};
+use crate::look_up::LookUp;
+use answers::Refusal;
+use periods::{Edition, Word};
 
-// What is found of a piece: its unit if it is a block, 0 else; the number of its run; and the run, from
-// 0, at which the next piece goes on.
-#[derive(Drop)]
-pub struct Located {
-    pub unit: usize,
-    pub number: u32,
-    pub next: usize,
-}
-
-// Writes the keys of all runs, and gives the count of the runs.
-pub fn list_keys(bytes: &[u8], codes: &[u16], wide: bool, keys: &mut [u32]) -> usize
-    requires { (length (word_of wide bytes.now codes.now) ≤ limit) × (length (word_of wide bytes.now codes.now) ≤ length keys.old) }
-    ensures { Keyed (word_of wide bytes.now codes.now) keys.new result }
-{
-    let mut none = [0u32; 0];
-    halves::inner::list(bytes, codes, wide, Listing::Keys, &mut none, keys)
-}
-
-// Notes the runs that start at or before a boundary, from run number `from` on, counted from 0: the
-// number of each, from 1, takes the place of its unit. Gives the run after them. What is noted at a unit
-// in the end is the last of them that has it; what unit memory does not hold has place 0.
-fn note(keys: &[u32], count: usize, before: usize, from: usize, latest: &mut [u32]) -> usize
-    requires { (count ≤ limit) × (count ≤ length keys.now) × (before ≤ limit) × Noted keys.now count before from latest.old }
-    ensures noted { Noted keys.now count before result latest.new }
-    ensures next_later { NextLater keys.now count before result }
-{
-    let mut next = from;
-    while next < count {
-        let key = keys[next] as usize;
-        if before + 1 < key / KEY_STEP {
-            return next;
-        }
-        next += 1;
-        latest[key % KEY_STEP] = next as u32;
-    }
-    next
-}
-
-// The unit of the piece between two boundaries, and the run that encloses it and has its unit.
-pub fn locate(
-    bytes: &[u8],
-    codes: &[u16],
-    wide: bool,
-    turns: usize,
-    before: usize,
-    end: usize,
-    keys: &[u32],
-    count: usize,
-    next: usize,
-    latest: &mut [u32],
-) -> Located
-    requires { (length (word_of wide bytes.now codes.now) ≤ limit) × (before < end) × (end ≤ length (word_of wide bytes.now codes.now)) × Turns turns × Keyed (word_of wide bytes.now codes.now) keys.now count × Noted keys.now count before next latest.old }
-    ensures found { Found turns (word_of wide bytes.now codes.now) before end result.unit result.number }
-    ensures noted { Noted keys.now count end result.next latest.new }
-{
-    let after = note(keys, count, before, next, latest);
-    let unit = periods::either::block_unit(bytes, codes, wide, before, end, turns);
-    Located {
-        unit,
-        number: latest[unit],
-        next: after,
-    }
-}
-
-fn numbers_in(
-    bytes: &[u8],
-    codes: &[u16],
-    wide: bool,
-    ends: &[u32],
-    keys: &mut [u32],
-    table: &mut [u32],
-)
-    requires { Factored (word_of wide bytes.now codes.now) ends.now × (length ends.now ≤ length table.old) × (length (word_of wide bytes.now codes.now) ≤ length keys.old) }
-    ensures { table.new ≡ run_numbers (word_of wide bytes.now codes.now) 0 ends.now ++ drop (length ends.now) table.old }
-{
-    let count = list_keys(bytes, codes, wide, keys);
-    let mut latest = [0u32; KEY_STEP];
-    let mut next: usize = 0;
-    let mut before: usize = 0;
-    let mut k: usize = 0;
-    while k < ends.len() {
-        let end = ends[k] as usize;
-        let found = locate(
-            bytes,
-            codes,
-            wide,
-            periods::FIRST_TURNS,
-            before,
-            end,
-            keys,
-            count,
-            next,
-            &mut latest,
-        );
-        table[k] = found.number;
-        next = found.next;
-        before = end;
-        k += 1;
-    }
-}
+// What a path has of each block: a run number and an end.
+const PAIR: usize = 2;
 
 // Writes the number of the run of each block of a factorization. Time: that of the runs, and of a judge.
-#[cycle(numbers_numbers_long_numbers_middle)]
-fn numbers(
-    bytes: &[u8],
-    codes: &[u16],
-    wide: bool,
-    ends: &[u32],
-    keys: &mut [u32],
-    table: &mut [u32],
-)
-    requires { Factored (word_of wide bytes.now codes.now) ends.now × (length ends.now ≤ length table.old) }
-    ensures { table.new ≡ run_numbers (word_of wide bytes.now codes.now) 0 ends.now ++ drop (length ends.now) table.old }
+#[inline(never)]
+fn numbers_with<const ROOM: usize>(w: Word, ends: &[u32], table: &mut [u32])
+    requires { Factored (symbols w) ends.now × (length ends.now ≤ length table.old) × (length (symbols w) ≤ ROOM) × (ROOM < 2 ^ 32) }
+    ensures { table.new ≡ run_numbers (symbols w.entry) 0 ends.now ++ drop (length ends.now) table.old }
 {
-    let n = periods::either::length(bytes, codes, wide);
-    if n <= keys.len() {
-        numbers_in(bytes, codes, wide, ends, keys, table);
-        return;
+    let mut keys = [0u32; ROOM];
+    let mut look_up = LookUp::new(w, &mut keys);
+    for (k, end) in ends.iter().enumerate() {
+        table[k] = look_up.locate(Edition::First, *end as usize).number;
     }
+}
+
+// The same with keys by the word's length.
+fn numbers(w: Word, ends: &[u32], table: &mut [u32])
+    requires { Factored (symbols w) ends.now × (length ends.now ≤ length table.old) }
+    ensures { table.new ≡ run_numbers (symbols w.entry) 0 ends.now ++ drop (length ends.now) table.old }
+{
+    let n = w.len();
     if n <= halves::SHORT {
-        let mut short = [0u32; halves::SHORT];
-        numbers(bytes, codes, wide, ends, &mut short, table);
-        return;
-    }
-    if n <= halves::MIDDLE {
-        numbers_middle(bytes, codes, wide, ends, table);
-        return;
-    }
-    numbers_long(bytes, codes, wide, ends, table);
-}
-
-#[cycle(numbers_numbers_long_numbers_middle)]
-fn numbers_middle(bytes: &[u8], codes: &[u16], wide: bool, ends: &[u32], table: &mut [u32])
-    requires { Factored (word_of wide bytes.now codes.now) ends.now × (length ends.now ≤ length table.old) × (length (word_of wide bytes.now codes.now) ≤ middle_limit) }
-    ensures { table.new ≡ run_numbers (word_of wide bytes.now codes.now) 0 ends.now ++ drop (length ends.now) table.old }
-{
-    let mut keys = [0u32; halves::MIDDLE];
-    numbers(bytes, codes, wide, ends, &mut keys, table);
-}
-
-#[cycle(numbers_numbers_long_numbers_middle)]
-fn numbers_long(bytes: &[u8], codes: &[u16], wide: bool, ends: &[u32], table: &mut [u32])
-    requires { Factored (word_of wide bytes.now codes.now) ends.now × (length ends.now ≤ length table.old) }
-    ensures { table.new ≡ run_numbers (word_of wide bytes.now codes.now) 0 ends.now ++ drop (length ends.now) table.old }
-{
-    let mut keys = [0u32; answers::LIMIT];
-    numbers(bytes, codes, wide, ends, &mut keys, table);
-}
-
-// Path of a split, of a word of either width.
-pub(crate) fn path(
-    bytes: &[u8],
-    codes: &[u16],
-    wide: bool,
-    edition: u32,
-    ends: &[u32],
-    table: &mut [u32],
-) -> Counted
-    ensures result_value { counted_view result ≡ path_outcome (word_of wide bytes.now codes.now) edition ends.now (length table.old) }
-    ensures table_after { table.new ≡ path_table (word_of wide bytes.now codes.now) edition ends.now table.old }
-    ensures path_meaning { PathMeaning (word_of wide bytes.now codes.now) edition ends.now table.old (counted_view result) table.new }
-{
-    let verdict = repetitions::inner::judge(bytes, codes, wide, edition, ends);
-    match verdict {
-        Counted::Refused(r) => Counted::Refused(r),
-        Counted::Count(blocks) => {
-            if table.len() < ends.len() {
-                return Counted::Refused(Refusal::TooFewPlaces);
-            }
-            let mut none = [0u32; 0];
-            numbers(bytes, codes, wide, ends, &mut none, table);
-            Counted::Count(blocks)
-        }
+        numbers_with::<{ halves::SHORT }>(w, ends, table);
+    } else if n <= halves::MIDDLE {
+        numbers_with::<{ halves::MIDDLE }>(w, ends, table);
+    } else {
+        numbers_with::<{ answers::LIMIT }>(w, ends, table);
     }
 }
 
-fn follow_in(
-    bytes: &[u8],
-    codes: &[u16],
-    wide: bool,
-    turns: usize,
-    numbers: &[u32],
-    keys: &mut [u32],
-) -> Counted
-    requires { (length numbers.now % 2 ≡ 0) × Turns turns × (length (word_of wide bytes.now codes.now) ≤ limit) × (length (word_of wide bytes.now codes.now) ≤ length keys.old) }
-    ensures { counted_view result ≡ verdict (segment? held_period turns (word_of wide bytes.now codes.now) numbers.now) (length (word_of wide bytes.now codes.now)) (ends_of_pairs numbers.now) }
+// Path of a split.
+pub(crate) fn path(w: Word, edition: u32, ends: &[u32], table: &mut [u32]) -> Result<u32, Refusal>
+    ensures result_value { counted_view result ≡ path_outcome (symbols w.entry) edition ends.now (length table.old) }
+    ensures table_after { table.new ≡ path_table (symbols w.entry) edition ends.now table.old }
+    ensures path_meaning { PathMeaning (symbols w.entry) edition ends.now table.old (counted_view result) table.new }
 {
-    let n = periods::either::length(bytes, codes, wide);
-    let count = list_keys(bytes, codes, wide, keys);
-    let mut latest = [0u32; KEY_STEP];
-    let mut next: usize = 0;
-    let mut before: usize = 0;
-    let mut k: usize = 0;
-    while k + k < numbers.len() {
-        let end = numbers[k + k + 1] as usize;
-        let number = (k + 1) as u32;
-        if factors::bad_end(before, end, n) {
-            return Counted::Refused(Refusal::BadEnd(number));
-        }
-        let found = locate(
-            bytes,
-            codes,
-            wide,
-            turns,
-            before,
-            end,
-            keys,
-            count,
-            next,
-            &mut latest,
-        );
-        if found.unit == 0 {
-            return Counted::Refused(Refusal::NotBlock(number));
-        }
-        if found.number != numbers[k + k] {
-            return Counted::Refused(Refusal::NotBlock(number));
-        }
-        next = found.next;
-        before = end;
-        k += 1;
+    let blocks = repetitions::inner::judge(w, edition, ends)?;
+    if table.len() < ends.len() {
+        return Err(Refusal::TooFewPlaces);
     }
-    if before != n {
-        return Counted::Refused(Refusal::Unfinished);
-    }
-    Counted::Count(k as u32)
+    numbers(w, ends, table);
+    Ok(blocks)
 }
 
 // The verdict on a path with an even count of numbers. The run of each piece comes from the symbols;
 // the number given is only compared with it. Time: that of the runs, and of a judge.
-#[cycle(follow_follow_long_follow_middle)]
-fn follow(
-    bytes: &[u8],
-    codes: &[u16],
-    wide: bool,
-    turns: usize,
+#[inline(never)]
+fn follow_with<const ROOM: usize>(
+    w: Word,
+    edition: Edition,
     numbers: &[u32],
-    keys: &mut [u32],
-) -> Counted
-    requires { (length (word_of wide bytes.now codes.now) ≤ limit) × (length numbers.now % 2 ≡ 0) × Turns turns }
-    ensures { counted_view result ≡ verdict (segment? held_period turns (word_of wide bytes.now codes.now) numbers.now) (length (word_of wide bytes.now codes.now)) (ends_of_pairs numbers.now) }
+) -> Result<u32, Refusal>
+    requires { (length numbers.now % 2 ≡ 0) × (length (symbols w) ≤ limit) × (length (symbols w) ≤ ROOM) × (ROOM < 2 ^ 32) }
+    ensures { counted_view result ≡ verdict (segment? held_period (turns_in edition) (symbols w.entry) numbers.now) (length (symbols w.entry)) (ends_of_pairs numbers.now) }
 {
-    let n = periods::either::length(bytes, codes, wide);
-    if n <= keys.len() {
-        return follow_in(bytes, codes, wide, turns, numbers, keys);
+    let n = w.len();
+    let mut keys = [0u32; ROOM];
+    let mut look_up = LookUp::new(w, &mut keys);
+    for (k, pair) in numbers.chunks_exact(PAIR).enumerate() {
+        let end = pair[1] as usize;
+        let number = (k + 1) as u32;
+        if factors::bad_end(look_up.before, end, n) {
+            return Err(Refusal::BadEnd(number));
+        }
+        let found = look_up.locate(edition, end);
+        if found.unit == 0 || found.number != pair[0] {
+            return Err(Refusal::NotBlock(number));
+        }
     }
+    if look_up.before != n {
+        return Err(Refusal::Unfinished);
+    }
+    Ok((numbers.len() / PAIR) as u32)
+}
+
+// The same with keys by the word's length.
+fn follow(w: Word, edition: Edition, numbers: &[u32]) -> Result<u32, Refusal>
+    requires { (length (symbols w) ≤ limit) × (length numbers.now % 2 ≡ 0) }
+    ensures { counted_view result ≡ verdict (segment? held_period (turns_in edition) (symbols w.entry) numbers.now) (length (symbols w.entry)) (ends_of_pairs numbers.now) }
+{
+    let n = w.len();
     if n <= halves::SHORT {
-        let mut short = [0u32; halves::SHORT];
-        return follow(bytes, codes, wide, turns, numbers, &mut short);
+        return follow_with::<{ halves::SHORT }>(w, edition, numbers);
     }
     if n <= halves::MIDDLE {
-        return follow_middle(bytes, codes, wide, turns, numbers);
+        return follow_with::<{ halves::MIDDLE }>(w, edition, numbers);
     }
-    follow_long(bytes, codes, wide, turns, numbers)
+    follow_with::<{ answers::LIMIT }>(w, edition, numbers)
 }
 
-#[cycle(follow_follow_long_follow_middle)]
-fn follow_middle(bytes: &[u8], codes: &[u16], wide: bool, turns: usize, numbers: &[u32]) -> Counted
-    requires { (length (word_of wide bytes.now codes.now) ≤ middle_limit) × (length numbers.now % 2 ≡ 0) × Turns turns }
-    ensures { counted_view result ≡ verdict (segment? held_period turns (word_of wide bytes.now codes.now) numbers.now) (length (word_of wide bytes.now codes.now)) (ends_of_pairs numbers.now) }
+// Judge a path.
+pub(crate) fn judge(w: Word, edition: u32, numbers: &[u32]) -> Result<u32, Refusal>
+    ensures result_value { counted_view result ≡ path_judged_outcome (symbols w.entry) edition numbers.now }
+    ensures path_judged_meaning { PathJudgedMeaning (symbols w.entry) edition numbers.now (counted_view result) }
 {
-    let mut keys = [0u32; halves::MIDDLE];
-    follow(bytes, codes, wide, turns, numbers, &mut keys)
-}
-
-#[cycle(follow_follow_long_follow_middle)]
-fn follow_long(bytes: &[u8], codes: &[u16], wide: bool, turns: usize, numbers: &[u32]) -> Counted
-    requires { (length (word_of wide bytes.now codes.now) ≤ limit) × (length numbers.now % 2 ≡ 0) × Turns turns }
-    ensures { counted_view result ≡ verdict (segment? held_period turns (word_of wide bytes.now codes.now) numbers.now) (length (word_of wide bytes.now codes.now)) (ends_of_pairs numbers.now) }
-{
-    let mut keys = [0u32; answers::LIMIT];
-    follow(bytes, codes, wide, turns, numbers, &mut keys)
-}
-
-// Judge a path, of a word of either width.
-pub(crate) fn judge(
-    bytes: &[u8],
-    codes: &[u16],
-    wide: bool,
-    edition: u32,
-    numbers: &[u32],
-) -> Counted
-    ensures result_value { counted_view result ≡ path_judged_outcome (word_of wide bytes.now codes.now) edition numbers.now }
-    ensures path_judged_meaning { PathJudgedMeaning (word_of wide bytes.now codes.now) edition numbers.now (counted_view result) }
-{
-    if answers::LIMIT < periods::either::length(bytes, codes, wide) {
-        return Counted::Refused(Refusal::TooLong);
+    if answers::LIMIT < w.len() {
+        return Err(Refusal::TooLong);
     }
-    if periods::bad_edition(edition) {
-        return Counted::Refused(Refusal::BadEdition);
+    let edition = Edition::try_from(edition)?;
+    if numbers.len() % PAIR == 1 {
+        return Err(Refusal::OddPath);
     }
-    if numbers.len() % 2 == 1 {
-        return Counted::Refused(Refusal::OddPath);
-    }
-    let turns = periods::turns(edition);
-    let mut none = [0u32; 0];
-    follow(bytes, codes, wide, turns, numbers, &mut none)
+    follow(w, edition, numbers)
 }

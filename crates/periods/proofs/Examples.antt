@@ -5,10 +5,13 @@ use mathlib.Core.List.{List, [], ◌∷◌, map}
 use Prim.Native.Nat.{ℕ, zero, suc}
 use native.Mathlib.Omega.{arith}
 use lib.ListN.{length, replicate, length-append}
+use Rattle.std.specs.Prelude.{Ok, Err}
+use Rattle.answers.specs.declared.Refusal.TheVariants.{BadEdition}
 use Rattle.answers.specs.Outcome.{accepted, refused}
+use Rattle.periods.specs.declared.edition.Edition.TheVariants.{First, Second}
 use Rattle.periods.specs.Period.{smallest_period, repetition?, prefix_periods, unit_memory, held_period, units_table}
 use Rattle.periods.specs.Square.{twice, power, Primitive, square?}
-use Rattle.periods.specs.Edition.{bad_edition?, turns_of}
+use Rattle.periods.specs.Edition.{bad_edition?, turns_of, edition_of, turns_in}
 use Rattle.periods.specs.Part.{part_outcome, part_table, description}
 use Rattle.periods.proofs.Squares.{power_empty}
 use Rattle.periods.proofs.Words.{one_and, word_a, word_aa, word_aaa, word_aaaa, word_aaaaa, word_aabaabaa, word_ab, word_ababa, word_empty}
@@ -41,6 +44,29 @@ part_of_aaaaa_in_2 = refl
 pub part_of_aaa_in_2 : part_outcome word_aaa 2 1 3 3 ≡ accepted (1 ∷ 3 ∷ 0 ∷ 1 ∷ [])
 unfolding part_outcome description repetition? smallest_period bad_edition? turns_of
 part_of_aaa_in_2 = refl
+
+-- "edition 1 or 2", the numbers beside them, and the turns of each
+pub edition_of_0 : edition_of 0 ≡ Err BadEdition
+unfolding edition_of bad_edition?
+edition_of_0 = refl
+
+pub edition_of_1 : edition_of 1 ≡ Ok First
+unfolding edition_of bad_edition?
+edition_of_1 = refl
+
+pub edition_of_2 : edition_of 2 ≡ Ok Second
+unfolding edition_of bad_edition?
+edition_of_2 = refl
+
+pub edition_of_3 : edition_of 3 ≡ Err BadEdition
+unfolding edition_of bad_edition?
+edition_of_3 = refl
+
+pub turns_in_first : turns_in First ≡ 2
+turns_in_first = refl
+
+pub turns_in_second : turns_in Second ≡ 3
+turns_in_second = refl
 
 -- "12, an edition other than 1 or 2, directly after 1": before 6 and 7
 pub part_edition_0 : part_outcome word_ababa 0 0 5 0 ≡ refused 12 0

@@ -1,6 +1,7 @@
 pub mod Search
 pub mod InPlace
 pub mod Claims
+pub mod Pairs
 pub mod BlockUnit
 pub mod Squares
 pub mod UnitsTable

@@ -12,8 +12,9 @@ use lib.Dec.{T, ltb}
 use lib.ListN.{length, get_or, take, length-take}
 use Rattle.answers.specs.Outcome.{Outcome, accepted, refused, refusal, limit}
 use Rattle.answers.proofs.Claims.{refused_accepted, refusal_injective}
-use Rattle.periods.specs.declared.PartAnswer.{PartAnswer}
-use Rattle.periods.specs.declared.PartAnswer.TheVariants.{Described, Refused}
+use Rattle.std.specs.Prelude.{Result, Ok, Err}
+use Rattle.answers.specs.declared.Refusal.{Refusal}
+use Rattle.periods.specs.declared.Description.{Description}
 use Rattle.periods.specs.Period.{part, SmallestPeriod, smallest_period, repetition?, held_period, block_of?, units_table}
 use Rattle.periods.specs.Edition.{Edition, turns_of}
 use Rattle.periods.specs.Part.{flag, part_view, description, part_outcome, part_table, Within, Describes, Grows, PartMeaning, too_long, bad_edition, outside, too_few, described}
@@ -163,8 +164,8 @@ flag_injective true false e = absurd (omega arith)
 flag_injective false true e = absurd (omega arith)
 flag_injective false false e = refl
 
-pub part-view_injective : (x y : PartAnswer) → part_view x ≡ part_view y → x ≡ y
-part-view_injective (Described d) (Described e) p = ap Described (λ i. record { period = a i; exponent = b i; remainder = f i; repetition = g i })
+pub part-view_injective : (x y : Result Description Refusal) → part_view x ≡ part_view y → x ≡ y
+part-view_injective (Ok d) (Ok e) p = ap Ok (λ i. record { period = a i; exponent = b i; remainder = f i; repetition = g i })
   where
     a : d.period ≡ e.period
     a = cc
@@ -180,6 +181,6 @@ part-view_injective (Described d) (Described e) p = ap Described (λ i. record {
 
     g : d.repetition ≡ e.repetition
     g = flag_injective d.repetition e.repetition h
-part-view_injective (Described d) (Refused s) p = absurd (refused_accepted (refusal s) _ _ _ refl (sym p))
-part-view_injective (Refused r) (Described e) p = absurd (refused_accepted (refusal r) _ _ _ refl p)
-part-view_injective (Refused r) (Refused s) p = ap Refused (refusal_injective r s p)
+part-view_injective (Ok d) (Err s) p = absurd (refused_accepted (refusal s) _ _ _ refl (sym p))
+part-view_injective (Err r) (Ok e) p = absurd (refused_accepted (refusal r) _ _ _ refl p)
+part-view_injective (Err r) (Err s) p = ap Err (refusal_injective r s p)

@@ -1,4 +1,4 @@
--- What the loops of `inner::units` keep, and that each of their three steps keeps it. p is a period of the first m symbols, and no smaller number is one of
+-- What the loops of `symbols::units` keep, and that each of their three steps keeps it. p is a period of the first m symbols, and no smaller number is one of
 -- the first m + 1. Where the next pair p apart agrees, p is their smallest period; else the next period of the first m symbols is p plus the smallest one of
 -- the first m - p, which stands in the table; where there is none, only the whole length is left. Assumes nothing.
 use mathlib.Core.Path.{◌≡◌, refl, sym, ap, ◌∙◌, subst}

@@ -1,12 +1,12 @@
--- Which of two sequences of symbols a word of either width is: what `wide` says. By cases. Assumes nothing.
+-- The symbols of a word of either width are those of the slice that it holds: of 16-bit codes (`word_of_codes`) and of bytes (`word_of_bytes`). By the definition
+-- of `symbols`. Assumes nothing.
 use mathlib.Core.Path.{◌≡◌, refl}
-use mathlib.Core.Bool.{Bool, true, false}
-use mathlib.Core.List.{List}
-use Prim.Native.Nat.{ℕ}
-use Rattle.periods.specs.Width.{word_of}
+use Rattle.periods.specs.declared.word.Word.{Word}
+use Rattle.periods.specs.declared.word.Word.TheVariants.{Bytes, Codes}
+use Rattle.periods.specs.Width.{symbols}
 
-pub word_of_codes : (wide : Bool) (bytes codes : List ℕ) → wide ≡ true → word_of wide bytes codes ≡ codes
-word_of_codes wide bytes codes e = rw e refl
+pub word_of_codes : (w : Word) (s : _) → w ≡ Codes s → symbols w ≡ s.now
+word_of_codes w s e = rw e refl
 
-pub word_of_bytes : (wide : Bool) (bytes codes : List ℕ) → wide ≡ false → word_of wide bytes codes ≡ bytes
-word_of_bytes wide bytes codes e = rw e refl
+pub word_of_bytes : (w : Word) (s : _) → w ≡ Bytes s → symbols w ≡ s.now
+word_of_bytes w s e = rw e refl

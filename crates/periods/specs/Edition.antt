@@ -1,5 +1,9 @@
 -- The editions of the winder's controller: "Each call that tests for blocks or nodes is told edition 1 or 2." "12, an edition other than 1 or 2".
-use Rattle.std.specs.Prelude.{◌≡◌, ◌⊎◌, Bool, cond, ◌||◌, ℕ, ◌≤◌, ltb, eqb}
+use Rattle.std.specs.Prelude.{◌≡◌, ◌⊎◌, Bool, cond, ◌||◌, ℕ, ◌≤◌, ltb, eqb, Result, Ok, Err}
+use Rattle.answers.specs.declared.Refusal.{Refusal}
+use Rattle.answers.specs.declared.Refusal.TheVariants.{BadEdition}
+use Rattle.periods.specs.declared.edition.Edition as known
+use Rattle.periods.specs.declared.edition.Edition.TheVariants.{First, Second}
 
 abbrev pub first_edition : ℕ
 first_edition = 1
@@ -28,3 +32,12 @@ bad_edition? e = ltb e first_edition || ltb second_edition e
 -- the turn numbers that there are
 abbrev pub Turns : ℕ → Type 0
 Turns k = (first_turns ≤ k) × (k ≤ second_turns)
+
+-- the edition that a number names, or refusal 12
+unfoldable pub edition_of : ℕ → Result known.Edition Refusal
+edition_of e = cond (bad_edition? e) (Err BadEdition) (Ok (cond (eqb e first_edition) First Second))
+
+-- the turn number of an edition that is known
+abbrev pub turns_in : known.Edition → ℕ
+turns_in First = first_turns
+turns_in Second = second_turns

@@ -1,10 +1,10 @@
 -- The part call: "For first and last: unit, turns, rest, block or not." It "now writes the unit of every leading part of that part but the empty one, one
 -- place for each length from 1". Refusals: "Part: 1, 6", 12 "directly after 1", and 7 "after 6".
-use Rattle.std.specs.Prelude.{◌↔◌, Bool, cond, ◌||◌, List, [], ◌∷◌, ◌≡◌, ℕ, ◌+◌, ◌-◌, ◌*◌, ◌/◌, ◌%◌, ◌≤◌, ◌<◌, ltb, length, get_or, take, drop}
+use Rattle.std.specs.Prelude.{◌↔◌, Bool, cond, ◌||◌, List, [], ◌∷◌, ◌≡◌, ℕ, ◌+◌, ◌-◌, ◌*◌, ◌/◌, ◌%◌, ◌≤◌, ◌<◌, ltb, length, get_or, take, drop, Result, Ok, Err}
+use Rattle.answers.specs.declared.Refusal.{Refusal}
 use Rattle.answers.specs.declared.Refusal.TheVariants.{TooLong, BadPosition, TooFewPlaces, BadEdition}
 use Rattle.answers.specs.Outcome.{Outcome, accepted, refused, refusal, limit}
-use Rattle.periods.specs.declared.PartAnswer.{PartAnswer}
-use Rattle.periods.specs.declared.PartAnswer.TheVariants.{Described, Refused}
+use Rattle.periods.specs.declared.Description.{Description}
 use Rattle.periods.specs.Period.{part, SmallestPeriod, Repetition, smallest_period, repetition?, held_period, units_table}
 use Rattle.periods.specs.Edition.{Edition, bad_edition?, turns_of}
 
@@ -13,9 +13,9 @@ abbrev pub flag : Bool → ℕ
 flag b = cond b 1 0
 
 -- the answer in document 01's numbers: unit, turns, rest, and 1 for a block or 0
-abbrev pub part_view : PartAnswer → Outcome
-part_view (Described d) = accepted (d.period ∷ d.exponent ∷ d.remainder ∷ flag d.repetition ∷ [])
-part_view (Refused r) = refusal r
+abbrev pub part_view : Result Description Refusal → Outcome
+part_view (Ok d) = accepted (d.period ∷ d.exponent ∷ d.remainder ∷ flag d.repetition ∷ [])
+part_view (Err r) = refusal r
 
 -- "Turns = length divided by unit, rounded down; rest = the remainder." Only block or not depends on the turn number k, and on what unit memory holds.
 unfoldable pub description : ℕ → List ℕ → List ℕ

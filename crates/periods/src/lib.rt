@@ -2,14 +2,16 @@
 #![tactic(auto)]
 
 ghost use Rattle.std.specs.Prelude.{◌≡◌, length};
-ghost use Rattle.periods.specs.Edition.{bad_edition?, turns_of};
 ghost use Rattle.periods.specs.Part.{part_view, part_outcome, part_table, PartMeaning};
 
-mod bytes;
-pub mod either;
+mod edition;
 pub mod inner;
+mod symbols;
+mod word;
 
 use answers::Refusal;
+pub use edition::Edition;
+pub use word::{Symbol, Word};
 
 // Edition 1 of the winder's controller, which the old winders have.
 pub const FIRST_EDITION: u32 = 1;
@@ -30,7 +32,7 @@ pub const UNIT_MEMORY: usize = 256;
 pub const TWICE: usize = 2;
 
 // What the part call says of a part: document 01's unit, turns, rest, and block or not.
-#[derive(Drop)]
+#[derive(Clone, Copy, Debug, PartialEq, Eq)]
 pub struct Description {
     pub period: u32,
     pub exponent: u32,
@@ -38,52 +40,21 @@ pub struct Description {
     pub repetition: bool,
 }
 
-#[derive(Drop)]
-pub enum PartAnswer {
-    Described(Description),
-    Refused(Refusal),
-}
-
-// Whether a number is no edition.
-pub fn bad_edition(edition: u32) -> bool
-    ensures { result ≡ bad_edition? edition }
-{
-    if edition < FIRST_EDITION {
-        return true;
-    }
-    SECOND_EDITION < edition
-}
-
-// The whole turns that a repetition (block) of an edition has at least.
-pub fn turns(edition: u32) -> usize
-    ensures { result ≡ turns_of edition }
-{
-    if edition == FIRST_EDITION {
-        return FIRST_TURNS;
-    }
-    SECOND_TURNS
-}
-
 // The part call: unit, turns, rest, and block or not, of the symbols at the positions first to
 // last, counted from 1; the edition decides about the block alone. Writes the unit of every leading
 // part of that part but the empty one, place i for its first i symbols, and keeps the other places;
 // the unit answered is the last one written. Refusals: 1, 12, 6, 7. Time linear in the part's
 // length.
-pub fn part(w: &[u8], edition: u32, first: u32, last: u32, units: &mut [u32]) -> PartAnswer
-    ensures answer { part_view result ≡ part_outcome w.now edition first last (length units.old) }
-    ensures written { units.new ≡ part_table w.now edition first last units.old }
-    ensures meaning { PartMeaning w.now edition first last units.old (part_view result) units.new }
+pub fn part<S: Symbol>(
+    w: &[S],
+    edition: u32,
+    first: u32,
+    last: u32,
+    units: &mut [u32],
+) -> Result<Description, Refusal>
+    ensures answer { part_view result ≡ part_outcome (S.numbers w.now) edition first last (length units.old) }
+    ensures written { units.new ≡ part_table (S.numbers w.now) edition first last units.old }
+    ensures meaning { PartMeaning (S.numbers w.now) edition first last units.old (part_view result) units.new }
 {
-    let none = [0u16; 0];
-    either::part(w, &none, false, edition, first, last, units)
-}
-
-// The same of a word of 16-bit symbols.
-pub fn part_16(w: &[u16], edition: u32, first: u32, last: u32, units: &mut [u32]) -> PartAnswer
-    ensures answer { part_view result ≡ part_outcome w.now edition first last (length units.old) }
-    ensures written { units.new ≡ part_table w.now edition first last units.old }
-    ensures meaning { PartMeaning w.now edition first last units.old (part_view result) units.new }
-{
-    let none = [0u8; 0];
-    either::part(&none, w, true, edition, first, last, units)
+    inner::part(S::word(w), edition, first, last, units)
 }

@@ -380,37 +380,39 @@ line_unique s n ends m fs (true, L) (true, M) = line_unique_of true s n ends m f
 
 -- ---- the test, one part after another
 
--- with the digits of the kind
-module _ (long : Bool) (s : List ℕ) (d : ℕ) (w : d ≡ width_of long) where
-  pub first_field : Parts long d s → T (field? d s place_of_length)
+module _ (long : Bool) (s : List ℕ) where
+  abbrev w : ℕ
+  w = width_of long
+
+  pub first_field : Parts long w s → T (field? w s place_of_length)
   first_field P =
       let first : get_or s (place_of_length - 1) 0 ≡ comma = ap (λ (l : List ℕ). get_or l (place_of_length - 1) 0) (starts_cut (prefix_of long) s P.starts) ∙ prefix_comma long _ in
-      subst T (field_is d s place_of_length true first (T_true (digits? (field s place_of_length d)) P.number)) tt
+      subst T (field_is w s place_of_length true first (T_true (digits? (field s place_of_length w)) P.number)) tt
 
-  pub not_line : (Parts long d s → ⊥) → false ≡ line? long s
+  pub not_line : (Parts long w s → ⊥) → false ≡ line? long s
   not_line h = go (line? long s) refl
     where
       go : (t : Bool) → line? long s ≡ t → false ≡ line? long s
-      go true f = absurd (h (subst (λ (j : ℕ). Parts long j s) (sym w) (line_parts long s (subst T (sym f) tt))))
+      go true f = absurd (h (line_parts long s (subst T (sym f) tt)))
       go false f = sym f
 
   -- where the other parts hold, the last byte decides
-  pub line_by_last : T (starts_with (prefix_of long) s) → T (field? d s place_of_length) → needless? long (number_at d s place_of_length) ≡ false → T (field? d s (place_of_count d))
-      → length s ≡ bytes_for d (number_at d s (place_of_count d)) → T (ends? d s (number_at d s (place_of_count d)))
+  pub line_by_last : T (starts_with (prefix_of long) s) → T (field? w s place_of_length) → needless? long (number_at w s place_of_length) ≡ false → T (field? w s (place_of_count w))
+      → length s ≡ bytes_for w (number_at w s (place_of_count w)) → T (ends? w s (number_at w s (place_of_count w)))
       → eqb (get_or s (length s - 1) 0) line_end ≡ line? long s
   line_by_last a b n c l f = go (ℕ_discrete (get_or s (length s - 1) 0) line_end)
     where
       go : Dec (get_or s (length s - 1) 0 ≡ line_end) → eqb (get_or s (length s - 1) 0) line_end ≡ line? long s
       go (yes x) =
-          let P : Parts long d s =
+          let P : Parts long w s =
           record {
             starts = a;
-            number = field-digits d s place_of_length b;
-            needed = needed_holds long (number_at d s place_of_length) (subst (λ (t : Bool). T (not t)) (sym n) tt);
+            number = field-digits w s place_of_length b;
+            needed = needed_holds long (number_at w s place_of_length) (subst (λ (t : Bool). T (not t)) (sym n) tt);
             count = c;
             sized = l;
             ends = f;
             last = x;
           } in
-          eq-eqb (get_or s (length s - 1) 0) line_end x ∙ sym (T_true (line? long s) (parts_line long s (subst (λ (j : ℕ). Parts long j s) w P)))
+          eq-eqb (get_or s (length s - 1) 0) line_end x ∙ sym (T_true (line? long s) (parts_line long s P))
       go (no x) = ne_eqb (get_or s (length s - 1) 0) line_end x ∙ not_line (λ P. x P.last)

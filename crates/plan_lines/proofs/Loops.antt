@@ -1,44 +1,30 @@
 -- What the loops of this crate keep, and that each step keeps it: bytes that are stored from a place on, a prefix that is compared, ends that are judged,
 -- tested and read one after another. Assumes nothing.
 use mathlib.Core.Path.{◌≡◌, refl, sym, ap, ◌∙◌, subst}
-use mathlib.Core.Bool.{Bool, true, false, not}
+use mathlib.Core.Bool.{Bool, true, false}
 use mathlib.Core.List.{List, [], ◌∷◌, ◌++◌, append-nil, append_assoc}
-use Prim.Native.Nat.{ℕ, zero, suc, ◌+◌, ◌-◌, ◌*◌, ◌^◌, ◌≤◌, ◌<◌}
+use Prim.Native.Nat.{ℕ, zero, suc, ◌+◌, ◌-◌, ◌*◌, ◌≤◌, ◌<◌}
 use native.Mathlib.Omega.{arith}
 use native.Mathlib.Decide.{ℕ_discrete}
-use native.Mathlib.Nat.{mul-zero, mul-suc, mul-le-mul_left, mul-le-mul_right, pow-le-pow_right}
+use native.Mathlib.Nat.{mul-zero, mul-suc, mul-le-mul_left, mul-le-mul_right}
 use native.Mathlib.Numerals.{add-one}
-use borrow.Author.Tests.{eq-eqb, ne_eqb, not-true, not-false}
+use borrow.Author.Tests.{eq-eqb}
 use lib.Dec.{T, eqb, eqb→eq}
-use lib.ListN.{length, get_or, set, take, drop, length-append, drop_of_length-le, get_or-append}
+use lib.Pointwise.{pointwise}
+use Rattle.std.specs.Prelude.{◌&&◌, Option, Some, None, is_some, IsSome}
+use lib.ListN.{length, get_or, set, take, drop, length-append, get_or-append}
 use lib.Seq.{sets, take-suc, drop-cons, set_at, append_snoc, length-take-le, get_or_at}
 use Rattle.laws.proofs.Tests.{and_left, and_right}
 use Rattle.laws.proofs.Stores.{sets-append}
 use Rattle.decimals.specs.Decimal.{comma, line_end, digits, digits?, field}
-use Rattle.decimals.proofs.Claims.{digits-length}
-use Rattle.decimals.proofs.Loops.{power_positive}
-use Rattle.plan_lines.specs.Line.{prefix_of, width_of, widest, greatest, fields, line, starts_with, step, place_of_length, place_of_count, place_of_end, bytes_for, number_at, field?, ends?, ends_in}
-
--- ---- a test that another function made
-
-pub said_yes : {t x : Bool} → t ≡ x → not t ≡ false → T x
-said_yes {t} e n = subst T (sym (not-false t n) ∙ e) tt
-
-pub said_no : {t x : Bool} → t ≡ x → not t ≡ true → x ≡ false
-said_no {t} e n = sym e ∙ not-true t n
+use Rattle.decimals.specs.Read.{number_view, number_in}
+use Rattle.decimals.proofs.Claims.{digits-length, number_some, number_none}
+use Rattle.plan_lines.specs.Line.{prefix_of, width_of, widest, fields, line, starts_with, step, place_of_length, place_of_count, place_of_end, bytes_for, number_at, field?, ends?, ends_in}
 
 -- ---- bytes that are stored
 
 sets_then : (xs ys l : List ℕ) (i j : ℕ) → i + length xs ≡ j → sets l i (xs ++ ys) ≡ sets (sets l i xs) j ys
 sets_then xs ys l i j e = sets-append l i xs ys ∙ ap (λ (k : ℕ). sets (sets l i xs) k ys) e
-
--- one more byte of a copy to the front
-pub copy_more : (l from : List ℕ) (i : ℕ) → i < length from → set (sets l 0 (take i from)) i (get_or from i 0) ≡ sets l 0 (take (i + 1) from)
-copy_more l from i h =
-    let e : 0 + length (take i from) ≡ i = omega (arith, length-take-le i from (omega arith)) in
-    sym (ap (sets l 0) (ap (λ (j : ℕ). take j from) (add-one i) ∙ take-suc from i 0 h)
-    ∙ sets-append l 0 (take i from) (get_or from i 0 ∷ [])
-    ∙ ap (λ (j : ℕ). set (sets l 0 (take i from)) j (get_or from i 0)) e)
 
 -- ---- numbers of d digits
 
@@ -78,9 +64,6 @@ module _ (d : ℕ) where
   module _ (s : List ℕ) (at : ℕ) where
     pub field_is : (t : Bool) → get_or s (at - 1) 0 ≡ comma → digits? (field s at d) ≡ t → t ≡ field? d s at
     field_is t e q = sym (simp (eq-eqb (get_or s (at - 1) 0) comma e) q)
-
-    pub field_other : (get_or s (at - 1) 0 ≡ comma → ⊥) → false ≡ field? d s at
-    field_other n = sym (simp (ne_eqb (get_or s (at - 1) 0) comma n))
 
     pub field-digits : T (field? d s at) → T (digits? (field s at d))
     field-digits h = and_right (eqb (get_or s (at - 1) 0) comma) (digits? (field s at d)) h
@@ -142,6 +125,20 @@ module _ (d : ℕ) where
   unfolding ends_in
   read_ends_none s t = refl
 
+-- ---- what the reader of digits gave, where it was given the digits of a kind
+
+module _ (d w : ℕ) (s : List ℕ) (at : ℕ) where
+  pub is_read : (r : Option ℕ) → w ≡ d → number_view r ≡ number_in (field s at w) → digits? (field s at d) ≡ is_some r
+  is_read (Some x) e h = (number_some (field s at d) x (h ∙ ap (λ (k : ℕ). number_in (field s at k)) e)).0
+  is_read None e h = number_none (field s at d) (h ∙ ap (λ (k : ℕ). number_in (field s at k)) e)
+
+  pub some_read : (r : Option ℕ) → w ≡ d → number_view r ≡ number_in (field s at w) → T (digits? (field s at d)) → IsSome r
+  some_read (Some x) e h t = refl
+  some_read None e h t = absurd (subst T (is_read None e h) t)
+
+  pub value_read : (x : ℕ) → w ≡ d → x ∷ [] ≡ number_in (field s at w) → x ≡ number_at d s at
+  value_read x e h = (number_some (field s at d) x (h ∙ ap (λ (k : ℕ). number_in (field s at k)) e)).1
+
 -- ---- a line of a kind
 
 pub prefix_length : (long : Bool) → length (prefix_of long) ≡ place_of_length
@@ -155,46 +152,35 @@ width_bound true = omega arith
 pub step_bound : (d k : ℕ) → d ≤ widest → step d * k ≤ step widest * k
 step_bound d k h = mul-le-mul_right k (omega arith)
 
--- numbers of at most six digits
-pub power_bound : (d : ℕ) → d ≤ widest → 10 ^ d ≤ 10 ^ widest
-power_bound d h = pow-le-pow_right {n = 10} (omega arith) h
-
-pub small_number : (d x : ℕ) → d ≤ widest → x ≤ greatest d → (x < 10 ^ d) × (x < 10 ^ widest)
-small_number d x h l = (omega (arith, power_positive d), omega (arith, power_positive d, power_bound d h))
-
 -- the stores of a whole line
-pub write_line_is : (long : Bool) (l : List ℕ) (n : ℕ) (ends : List ℕ) (d : ℕ) → d ≡ width_of long
-    → set (sets (sets (sets (sets l 0 (prefix_of long)) place_of_length (digits d n)) (place_of_count d - 1) (comma ∷ digits d (length ends))) (place_of_end d 0 - 1) (fields d ends)) (bytes_for d (length ends) - 1) line_end
-    ≡ sets l 0 (line long n ends)
-unfolding line
-write_line_is long l n ends d w =
-    let c : List ℕ = digits d (length ends) in
-    let E : List ℕ = line_end ∷ [] in
-    let A : List ℕ = sets l 0 (prefix_of long) in
-    let B : List ℕ = sets A place_of_length (digits d n) in
-    let D : List ℕ = sets B (place_of_count d - 1) (comma ∷ c) in
-    sym (ap (λ (e : ℕ). sets l 0 (prefix_of long ++ (digits e n ++ (fields e (length ends ∷ ends) ++ E)))) (sym w)
-    ∙ sets_then (prefix_of long) (digits d n ++ (fields d (length ends ∷ ends) ++ E)) l 0 place_of_length (omega (arith, prefix_length long))
-    ∙ ap (λ (t : List ℕ). sets A place_of_length (digits d n ++ comma ∷ t)) (append_assoc c (fields d ends) E)
-    ∙ sets_then (digits d n) (comma ∷ (c ++ (fields d ends ++ E))) A place_of_length (place_of_count d - 1) (omega (arith, digits-length d n))
-    ∙ sets_then (comma ∷ c) (fields d ends ++ E) B (place_of_count d - 1) (place_of_end d 0 - 1) (omega (arith, digits-length d (length ends)))
-    ∙ sets_then (fields d ends) E D (place_of_end d 0 - 1) (bytes_for d (length ends) - 1) (omega (arith, fields_length d ends)))
+module _ (long : Bool) (l : List ℕ) (n : ℕ) (ends : List ℕ) where
+  abbrev d : ℕ
+  d = width_of long
+
+  pub write_line_is :
+      set (sets (sets (sets (sets l 0 (prefix_of long)) place_of_length (digits d n)) (place_of_count d - 1) (comma ∷ digits d (length ends))) (place_of_end d 0 - 1) (fields d ends)) (bytes_for d (length ends) - 1) line_end
+      ≡ sets l 0 (line long n ends)
+  unfolding line
+  write_line_is =
+      let c : List ℕ = digits d (length ends) in
+      let E : List ℕ = line_end ∷ [] in
+      let A : List ℕ = sets l 0 (prefix_of long) in
+      let B : List ℕ = sets A place_of_length (digits d n) in
+      let D : List ℕ = sets B (place_of_count d - 1) (comma ∷ c) in
+      sym (sets_then (prefix_of long) (digits d n ++ (fields d (length ends ∷ ends) ++ E)) l 0 place_of_length (omega (arith, prefix_length long))
+      ∙ ap (λ (t : List ℕ). sets A place_of_length (digits d n ++ comma ∷ t)) (append_assoc c (fields d ends) E)
+      ∙ sets_then (digits d n) (comma ∷ (c ++ (fields d ends ++ E))) A place_of_length (place_of_count d - 1) (omega (arith, digits-length d n))
+      ∙ sets_then (comma ∷ c) (fields d ends ++ E) B (place_of_count d - 1) (place_of_end d 0 - 1) (omega (arith, digits-length d (length ends)))
+      ∙ sets_then (fields d ends) E D (place_of_end d 0 - 1) (bytes_for d (length ends) - 1) (omega (arith, fields_length d ends)))
 
 -- ---- a prefix that is compared
 
-module _ (p s : List ℕ) (i : ℕ) where
-  pub starts_step : i < length p → i < length s → get_or s i 0 ≡ get_or p i 0 → starts_with (drop i p) (drop i s) ≡ starts_with (drop (i + 1) p) (drop (i + 1) s)
-  unfolding starts_with
-  starts_step a b e = rw (add-one, drop-cons p i 0, drop-cons s i 0, eq-eqb (get_or p i 0) (get_or s i 0) (sym e))
+-- by the library's test or by that of the specs
+pub std_starts : (p s : List ℕ) → pointwise eqb p (take (length p) s) ≡ starts_with p s
+unfolding starts_with
+std_starts [] s = refl
+std_starts (b ∷ p) [] = refl
+std_starts (b ∷ p) (c ∷ s) = ap (λ (t : Bool). eqb b c && t) (std_starts p s)
 
-  pub starts_differ : i < length p → i < length s → (get_or s i 0 ≡ get_or p i 0 → ⊥) → starts_with (drop i p) (drop i s) ≡ false
-  unfolding starts_with
-  starts_differ a b e = rw (drop-cons p i 0, drop-cons s i 0, ne_eqb (get_or p i 0) (get_or s i 0) (λ q. e (sym q)))
-
-  pub starts_short : i < length p → length s ≤ i → starts_with (drop i p) (drop i s) ≡ false
-  unfolding starts_with
-  starts_short a b = rw (drop-cons p i 0, drop_of_length-le s b)
-
-  pub starts_done : length p ≤ i → starts_with (drop i p) (drop i s) ≡ true
-  unfolding starts_with
-  starts_done a = rw (drop_of_length-le p a)
+pub begins : (r : Bool) (p q s : List ℕ) → r ≡ pointwise eqb p (take (length p) s) → p ≡ q → starts_with q s ≡ r
+begins r p q s h e = sym (h ∙ std_starts p s ∙ ap (λ (l : List ℕ). starts_with l s) e)

@@ -2,137 +2,114 @@
 ghost use Rattle.std.specs.Prelude.{◌∷◌, ◌++◌, ◌≡◌, ◌≤◌, ◌<◌, ◌+◌, ◌-◌, ◌^◌, T, length, drop};
 ghost use Rattle.std.proofs.lemmas.List.Edits.{sets};
 ghost use Rattle.decimals.specs.Decimal.{comma, digits, digits?, field};
-ghost use Rattle.plan_lines.specs.Line.{prefix_of, width_of, widest, fields, line, greatest, Small, number_at, field?, ends?, ends_in, bytes_for, place_of_length, place_of_count, place_of_end};
+ghost use Rattle.plan_lines.specs.Line.{prefix_of, fields, line, greatest, Small, number_at, field?, ends?, ends_in, bytes_for, place_of_length, place_of_count, place_of_end};
+ghost use Rattle.plan_lines.specs.Kinds.{is_long, width_in};
 
-use crate::{LENGTH_PLACE, LONG_PREFIX, PREFIX};
+use crate::{Kind, LENGTH_PLACE};
 use decimals::{COMMA, LINE_END};
 
 // The bytes besides digits of a line with no ends.
 const FRAME: usize = 7;
 
 // Where the count of ends stands.
-pub fn count_place(width: usize) -> usize
-    requires { width ≤ widest }
-    ensures { result ≡ place_of_count width }
+pub fn count_place(kind: Kind) -> usize
+    ensures { result ≡ place_of_count (width_in kind) }
 {
-    LENGTH_PLACE + width + 1
+    LENGTH_PLACE + kind.width() + 1
 }
 
 // The bytes of a line with k ends; end number k + 1 stands at that place.
-pub fn bytes_for(width: usize, k: usize) -> usize
-    requires { bytes_for width k < 2 ^ 63 }
-    ensures { result ≡ bytes_for width k }
+pub fn bytes_for(kind: Kind, k: usize) -> usize
+    requires { bytes_for (width_in kind) k < 2 ^ 63 }
+    ensures { result ≡ bytes_for (width_in kind) k }
 {
+    let width = kind.width();
     2 * width + FRAME + (width + 1) * k
 }
 
-// Copies bytes to the front of others.
-fn copy(out: &mut [u8], from: &[u8])
-    requires { length from.now ≤ length out.old }
-    ensures { out.new ≡ sets out.old 0 from.now }
-{
-    let mut i: usize = 0;
-    while i < from.len() {
-        out[i] = from[i];
-        i += 1;
-    }
-}
-
 // Writes the bytes that a line of a kind begins with.
-fn write_prefix(long: bool, out: &mut [u8])
+fn write_prefix(kind: Kind, out: &mut [u8])
     requires { place_of_length ≤ length out.old }
-    ensures { out.new ≡ sets out.old 0 (prefix_of long) }
+    ensures { out.new ≡ sets out.old 0 (prefix_of (is_long kind)) }
 {
-    if long {
-        copy(out, &LONG_PREFIX);
-        return;
-    }
-    copy(out, &PREFIX);
+    out[..LENGTH_PLACE].copy_from_slice(&kind.prefix());
 }
 
 // Writes a comma and the digits of a number, the digits from place at on.
-fn write_field(out: &mut [u8], at: usize, width: usize, x: u32)
-    requires { (1 ≤ at) × (at + width ≤ length out.old) × (width ≤ widest) × (x ≤ greatest width) }
-    ensures { out.new ≡ sets out.old (at - 1) (comma ∷ digits width x) }
+fn write_field(kind: Kind, out: &mut [u8], at: usize, x: u32)
+    requires { (1 ≤ at) × (at + width_in kind ≤ length out.old) × (x ≤ greatest (width_in kind)) }
+    ensures { out.new ≡ sets out.old (at - 1) (comma ∷ digits (width_in kind) x) }
 {
     out[at - 1] = COMMA;
-    decimals::inner::write(out, at, width, x);
+    decimals::inner::write(out, at, kind.width(), x);
 }
 
 // Writes the ends, each after a comma, at their places of a line.
-fn write_ends(width: usize, ends: &[u32], out: &mut [u8])
-    requires { (bytes_for width (length ends.now) ≤ length out.old) × (width ≤ widest) × Small width ends.now }
-    ensures { out.new ≡ sets out.old (place_of_end width 0 - 1) (fields width ends.now) }
+fn write_ends(kind: Kind, ends: &[u32], out: &mut [u8])
+    requires { (bytes_for (width_in kind) (length ends.now) ≤ length out.old) × Small (width_in kind) ends.now }
+    ensures { out.new ≡ sets out.old (place_of_end (width_in kind) 0 - 1) (fields (width_in kind) ends.now) }
 {
-    let mut k: usize = 0;
-    while k < ends.len() {
-        write_field(out, bytes_for(width, k), width, ends[k]);
-        k += 1;
+    for (k, end) in ends.iter().enumerate() {
+        write_field(kind, out, bytes_for(kind, k), *end);
     }
 }
 
 // Writes the line of n and ends, of a kind, to the front of the bytes.
-pub fn write_line(long: bool, n: u32, ends: &[u32], out: &mut [u8])
-    requires { (bytes_for (width_of long) (length ends.now) ≤ length out.old) × Small (width_of long) (n ∷ length ends.now ∷ ends.now) }
-    ensures { out.new ≡ sets out.old 0 (line long n ends.now) }
+pub fn write_line(kind: Kind, n: u32, ends: &[u32], out: &mut [u8])
+    requires { (bytes_for (width_in kind) (length ends.now) ≤ length out.old) × Small (width_in kind) (n ∷ length ends.now ∷ ends.now) }
+    ensures { out.new ≡ sets out.old 0 (line (is_long kind) n ends.now) }
 {
-    let width = crate::width_of(long);
     let count = ends.len();
-    write_prefix(long, out);
-    decimals::inner::write(out, LENGTH_PLACE, width, n);
-    write_field(out, count_place(width), width, count as u32);
-    write_ends(width, ends, out);
-    out[bytes_for(width, count) - 1] = LINE_END;
+    write_prefix(kind, out);
+    decimals::inner::write(out, LENGTH_PLACE, kind.width(), n);
+    write_field(kind, out, count_place(kind), count as u32);
+    write_ends(kind, ends, out);
+    out[bytes_for(kind, count) - 1] = LINE_END;
 }
 
-// The number at a place where so many digits stand.
-pub fn number(s: &[u8], at: usize, width: usize) -> u32
-    requires { (at + width ≤ length s.now) × (width ≤ widest) × T (digits? (field s.now at width)) }
-    ensures { result ≡ number_at width s.now at }
+// The number at a place where the digits of one stand.
+pub fn number(kind: Kind, s: &[u8], at: usize) -> u32
+    requires { (at + width_in kind ≤ length s.now) × T (digits? (field s.now at (width_in kind))) }
+    ensures { result ≡ number_at (width_in kind) s.now at }
 {
-    match decimals::inner::read(s, at, width) {
-        decimals::Number::Value(x) => x,
-        decimals::Number::NotDigits => 0,
-    }
+    decimals::inner::read(s, at, kind.width()).unwrap()
 }
 
-// Whether a comma stands before a place and so many digits from it on.
-pub(crate) fn field_at(s: &[u8], at: usize, width: usize) -> bool
-    requires { (1 ≤ at) × (at + width ≤ length s.now) × (width ≤ widest) }
-    ensures { result ≡ field? width s.now at }
+// Whether a comma stands before a place and the digits of a number from it on.
+pub(crate) fn field_at(kind: Kind, s: &[u8], at: usize) -> bool
+    requires { (1 ≤ at) × (at + width_in kind ≤ length s.now) }
+    ensures { result ≡ field? (width_in kind) s.now at }
 {
-    if s[at - 1] != COMMA {
-        return false;
-    }
-    match decimals::inner::read(s, at, width) {
-        decimals::Number::Value(x) => true,
-        decimals::Number::NotDigits => false,
-    }
+    s[at - 1] == COMMA && decimals::inner::read(s, at, kind.width()).is_some()
 }
 
 // Whether so many ends stand at their places, each after a comma.
-pub(crate) fn ends_at(s: &[u8], width: usize, count: usize) -> bool
-    requires { (bytes_for width count ≤ length s.now) × (width ≤ widest) }
-    ensures { result ≡ ends? width s.now count }
+pub(crate) fn ends_at(kind: Kind, s: &[u8], count: usize) -> bool
+    requires { bytes_for (width_in kind) count ≤ length s.now }
+    ensures { result ≡ ends? (width_in kind) s.now count }
 {
-    let mut k: usize = 0;
-    while k < count {
-        if !field_at(s, bytes_for(width, k), width) {
+    for k in 0..count {
+        if !field_at(kind, s, bytes_for(kind, k)) {
             return false;
         }
-        k += 1;
     }
     true
 }
 
-// Writes the ends that stand in a line to the front of a table.
-pub fn read_ends(s: &[u8], width: usize, count: usize, table: &mut [u32])
-    requires { (bytes_for width count ≤ length s.now) × (width ≤ widest) × T (ends? width s.now count) × (count ≤ length table.old) }
-    ensures { table.new ≡ ends_in width s.now count ++ drop count table.old }
+// End number k + 1 of a line.
+pub fn end(kind: Kind, s: &[u8], k: usize) -> u32
+    requires { (place_of_end (width_in kind) k + width_in kind ≤ length s.now) × T (field? (width_in kind) s.now (place_of_end (width_in kind) k)) }
+    ensures { result ≡ number_at (width_in kind) s.now (place_of_end (width_in kind) k) }
 {
-    let mut k: usize = 0;
-    while k < count {
-        table[k] = number(s, bytes_for(width, k), width);
-        k += 1;
+    number(kind, s, bytes_for(kind, k))
+}
+
+// Writes the ends that stand in a line to the front of a table.
+pub fn read_ends(kind: Kind, s: &[u8], count: usize, table: &mut [u32])
+    requires { (bytes_for (width_in kind) count ≤ length s.now) × T (ends? (width_in kind) s.now count) × (count ≤ length table.old) }
+    ensures { table.new ≡ ends_in (width_in kind) s.now count ++ drop count table.old }
+{
+    for k in 0..count {
+        table[k] = end(kind, s, k);
     }
 }

@@ -2,7 +2,8 @@
 #![tactic(auto)]
 
 ghost use Rattle.std.specs.Prelude.{◌≡◌};
-ghost use Rattle.plan_lines.specs.Line.{prefix_of, width_of, needs_long, starts_with, long?, needless?, line?};
+ghost use Rattle.plan_lines.specs.Line.{prefix_of, width_of, needs_long, long?, needless?, line?};
+ghost use Rattle.plan_lines.specs.Kinds.{is_long};
 
 pub mod inner;
 
@@ -24,94 +25,93 @@ pub const LINE_LIMIT: usize = 4096;
 // Where n stands.
 pub const LENGTH_PLACE: usize = 5;
 
-// The digits of a number in a line of a kind.
-pub fn width_of(long: bool) -> usize
-    ensures { result ≡ width_of long }
-{
-    if long {
-        return LONG_WIDTH;
-    }
-    WIDTH
+// The kinds of line: a plan line, and the long line of a plan of more than 4,096 passes.
+#[derive(Clone, Copy, Debug, PartialEq, Eq)]
+pub enum Kind {
+    Plain,
+    Long,
 }
 
-// Whether the line of a plan is a long one.
-pub fn needs_long(n: u32) -> bool
-    ensures { result ≡ needs_long n }
-{
-    LINE_LIMIT < n as usize
-}
-
-// Whether s begins with the bytes of p.
-fn starts(s: &[u8], p: &[u8]) -> bool
-    ensures { result ≡ starts_with p.now s.now }
-{
-    let mut i: usize = 0;
-    while i < p.len() {
-        if s.len() <= i {
-            return false;
+impl Kind {
+    // The kind of line that a plan of n has.
+    pub fn of(n: u32) -> Kind
+        ensures { is_long result ≡ needs_long n }
+    {
+        if LINE_LIMIT < n as usize {
+            Kind::Long
+        } else {
+            Kind::Plain
         }
-        if s[i] != p[i] {
-            return false;
+    }
+
+    // The kind of line that s begins as.
+    pub fn begun(s: &[u8]) -> Kind
+        ensures { is_long result ≡ long? s.now }
+    {
+        if s.starts_with(&LONG_PREFIX) {
+            Kind::Long
+        } else {
+            Kind::Plain
         }
-        i += 1;
     }
-    true
-}
 
-// Whether s begins as a line of a kind.
-fn begins(long: bool, s: &[u8]) -> bool
-    ensures { result ≡ starts_with (prefix_of long) s.now }
-{
-    if long {
-        return starts(s, &LONG_PREFIX);
+    // The digits of a number in the line.
+    pub fn width(self) -> usize
+        ensures { result ≡ width_of (is_long self) }
+    {
+        match self {
+            Kind::Plain => WIDTH,
+            Kind::Long => LONG_WIDTH,
+        }
     }
-    starts(s, &PREFIX)
-}
 
-// The kind of line that s begins as.
-pub fn is_long(s: &[u8]) -> bool
-    ensures { result ≡ long? s.now }
-{
-    begins(true, s)
-}
-
-// Whether a line of a kind is a long one without need.
-fn needless(long: bool, n: u32) -> bool
-    ensures { result ≡ needless? long n }
-{
-    if long {
-        return n as usize <= LINE_LIMIT;
+    // The bytes that the line begins with.
+    fn prefix(self) -> [u8; 5]
+        ensures { result ≡ prefix_of (is_long self) }
+    {
+        match self {
+            Kind::Plain => PREFIX,
+            Kind::Long => LONG_PREFIX,
+        }
     }
-    false
+
+    // Whether the line of n is a long one without need.
+    fn needless(self, n: u32) -> bool
+        ensures { result ≡ needless? (is_long self) n }
+    {
+        match self {
+            Kind::Plain => false,
+            Kind::Long => n as usize <= LINE_LIMIT,
+        }
+    }
 }
 
 // Whether the bytes are one line of a kind whose count of ends is the one stated.
-pub fn is_line(long: bool, s: &[u8]) -> bool
-    ensures { result ≡ line? long s.now }
+pub fn is_line(kind: Kind, s: &[u8]) -> bool
+    ensures { result ≡ line? (is_long kind) s.now }
 {
     let len = s.len();
-    let width = width_of(long);
-    let count_at = inner::count_place(width);
-    if len < inner::bytes_for(width, 0) {
+    let count_at = inner::count_place(kind);
+    if len < inner::bytes_for(kind, 0) {
         return false;
     }
-    if !begins(long, s) {
+    if !s.starts_with(&kind.prefix()) {
         return false;
     }
-    if !inner::field_at(s, LENGTH_PLACE, width) {
+    if !inner::field_at(kind, s, LENGTH_PLACE) {
         return false;
     }
-    if needless(long, inner::number(s, LENGTH_PLACE, width)) {
+    if kind.needless(inner::number(kind, s, LENGTH_PLACE)) {
         return false;
     }
-    if !inner::field_at(s, count_at, width) {
+    if !inner::field_at(kind, s, count_at) {
         return false;
     }
-    let count = inner::number(s, count_at, width) as usize;
-    if len != inner::bytes_for(width, count) {
+    let count = inner::number(kind, s, count_at) as usize;
+    if len != inner::bytes_for(kind, count) {
         return false;
     }
-    if !inner::ends_at(s, width, count) {
+    if !inner::ends_at(kind, s, count) {
         return false;
     }
     s[len - 1] == LINE_END

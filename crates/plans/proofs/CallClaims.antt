@@ -12,17 +12,15 @@ use borrow.Author.Tests.{lt-ltb, le-ltb}
 use lib.Dec.{T, ltb, ltb→lt}
 use lib.ListN.{length, drop}
 use Rattle.laws.proofs.Tests.{T_true}
+use Rattle.std.specs.Prelude.{Result, Ok, Err}
 use Rattle.answers.specs.declared.Refusal.{Refusal}
 use Rattle.answers.specs.declared.Refusal.TheVariants.{TooFewPlaces, NotPlan}
-use Rattle.answers.specs.declared.Counted.{Counted}
-use Rattle.answers.specs.declared.Counted.TheVariants.{Count, Refused as Counted-Refused}
 use Rattle.answers.specs.Outcome.{Outcome, accepted, refused, refusal, counted_view, limit, unless_refused, table_unless}
 use Rattle.answers.proofs.Claims.{refused_accepted, refusal_injective}
 use Rattle.factors.specs.Factorization.{Chain}
 use Rattle.factors.specs.Verdict.{verdict, VerdictMeaning, bad_end, no_block, unfinished, fine}
 use Rattle.factors.proofs.VerdictClaims.{verdict_means, accepted_iff, accepted_length}
-use Rattle.plans.specs.declared.PlanAnswer.{PlanAnswer}
-use Rattle.plans.specs.declared.PlanAnswer.TheVariants.{Plan, Refused}
+use Rattle.plans.specs.declared.Plan.{Plan}
 use Rattle.plan_lines.specs.Line.{width_of, line_limit, needs_long, greatest, plan_line, Small, IsLineOf, IsLine, long?, line?, number_at, place_of_length, place_of_count, ends_in}
 use Rattle.plans.specs.Calls.{any_piece, AnyPiece, plausible, write_outcome, write_table, limit_of, read_outcome_as, read_table_as, read_outcome, read_table, plan_view, WriteMeaning, ReadMeaning}
 use Rattle.plans.proofs.Judged.{judge_too_long, judge_verdict}
@@ -79,13 +77,13 @@ module _ (most n : ℕ) (ends : List ℕ) where
       subst (VerdictMeaning AnyPiece n ends) (sym (judge_verdict most n ends h)) (verdict_means any_piece AnyPiece (λ k i j x. tt) (λ k i j x. tt) n ends)
 
   -- what a judge that counts the ends says
-  pub judge_counts : (r : Counted) (x : ℕ) → counted_view r ≡ plausible most n ends → r ≡ Count x → (plausible most n ends ≡ accepted (x ∷ [])) × (x ≡ length ends)
+  pub judge_counts : (r : Result ℕ Refusal) (x : ℕ) → counted_view r ≡ plausible most n ends → r ≡ Ok x → (plausible most n ends ≡ accepted (x ∷ [])) × (x ≡ length ends)
   judge_counts r x e f =
       let p : plausible most n ends ≡ accepted (x ∷ []) = sym e ∙ ap counted_view f in
       let c : x ∷ [] ≡ length ends ∷ [] = plausible_count (x ∷ []) p in
       (p, cc)
 
-  pub judge_refuses : (r : Counted) (f : Refusal) → counted_view r ≡ plausible most n ends → r ≡ Counted-Refused f → plausible most n ends ≡ refusal f
+  pub judge_refuses : (r : Result ℕ Refusal) (f : Refusal) → counted_view r ≡ plausible most n ends → r ≡ Err f → plausible most n ends ≡ refusal f
   judge_refuses r f e g = sym e ∙ ap counted_view g
 
 -- ---- writing
@@ -148,8 +146,12 @@ module _ (n : ℕ) (ends : List ℕ) where
 
     -- the answer and the bytes with their meaning
     pub write_answered : (o : Outcome) (u : List ℕ) → o ≡ write_outcome n ends (length t) → u ≡ write_table n ends t
-        → (o ≡ write_outcome n ends (length t)) × ((u ≡ write_table n ends t) × WriteMeaning n ends t o u)
-    write_answered o u e f = (e, (f, subst (λ (x : Outcome). WriteMeaning n ends t x u) (sym e) (subst (WriteMeaning n ends t (write_outcome n ends (length t))) (sym f) write_means)))
+        → record { answer : o ≡ write_outcome n ends (length t); written : u ≡ write_table n ends t; meaning : WriteMeaning n ends t o u }
+    write_answered o u e f = record {
+      answer = e;
+      written = f;
+      meaning = subst (λ (x : Outcome). WriteMeaning n ends t x u) (sym e) (subst (WriteMeaning n ends t (write_outcome n ends (length t))) (sym f) write_means);
+    }
 
 -- ---- reading
 
@@ -217,14 +219,12 @@ module _ (long : Bool) (s t : List ℕ) where
 
   -- what was answered and left for the kind, with its meaning
   pub read_answered : (o : Outcome) (u : List ℕ) → long ≡ long? s → o ≡ read_outcome_as long s (length t) → u ≡ read_table_as long s t
-      → (o ≡ read_outcome s (length t)) × ((u ≡ read_table s t) × ReadMeaning s t o u)
-  read_answered o u k e f = (
-    e ∙ ap (λ (b : Bool). read_outcome_as b s (length t)) k,
-    (
-      f ∙ ap (λ (b : Bool). read_table_as b s t) k,
-      subst (λ (x : Outcome). ReadMeaning s t x u) (sym e) (subst (ReadMeaning s t (read_outcome_as long s (length t))) (sym f) (read_means_as (sym k))),
-    ),
-  )
+      → record { answer : o ≡ read_outcome s (length t); written : u ≡ read_table s t; meaning : ReadMeaning s t o u }
+  read_answered o u k e f = record {
+    answer = e ∙ ap (λ (b : Bool). read_outcome_as b s (length t)) k;
+    written = f ∙ ap (λ (b : Bool). read_table_as b s t) k;
+    meaning = subst (λ (x : Outcome). ReadMeaning s t x u) (sym e) (subst (ReadMeaning s t (read_outcome_as long s (length t))) (sym f) (read_means_as (sym k)));
+  }
 
 -- CLAIM: what the reader answers and writes means what the documents say
 pub read_means : (s t : List ℕ) → ReadMeaning s t (read_outcome s (length t)) (read_table s t)
@@ -330,11 +330,11 @@ round_trip n ends places v t e h = go (write_plausible n ends places v e)
         )
 
 -- CLAIM: an answer of the reader is determined by its numbers
-pub plan_view_injective : (x y : PlanAnswer) → plan_view x ≡ plan_view y → x ≡ y
-plan_view_injective (Plan n k) (Plan m j) e =
-    let a : n ≡ m = cc in
-    let b : k ≡ j = cc in
-    ap₂ Plan a b
-plan_view_injective (Plan n k) (Refused s) e = absurd (refused_accepted (refusal s) _ _ (n ∷ k ∷ []) refl (sym e))
-plan_view_injective (Refused r) (Plan m j) e = absurd (refused_accepted (refusal r) _ _ (m ∷ j ∷ []) refl e)
-plan_view_injective (Refused r) (Refused s) e = ap Refused (refusal_injective r s e)
+pub plan_view_injective : (x y : Result Plan Refusal) → plan_view x ≡ plan_view y → x ≡ y
+plan_view_injective (Ok p) (Ok q) e =
+    let a : p.n ≡ q.n = cc in
+    let b : p.count ≡ q.count = cc in
+    ap₂ (λ (n k : ℕ). Ok (record { n = n; count = k })) a b
+plan_view_injective (Ok p) (Err s) e = absurd (refused_accepted (refusal s) _ _ (p.n ∷ p.count ∷ []) refl (sym e))
+plan_view_injective (Err r) (Ok q) e = absurd (refused_accepted (refusal r) _ _ (q.n ∷ q.count ∷ []) refl e)
+plan_view_injective (Err r) (Err s) e = ap Err (refusal_injective r s e)

@@ -1,10 +1,10 @@
 -- Writing and reading a plan line: what the calls answer, what they write, and what that means.
-use Rattle.std.specs.Prelude.{◌≡◌, Bool, true, false, cond, List, [], ◌∷◌, ◌++◌, ℕ, ◌≤◌, ◌<◌, ltb, length, drop}
+use Rattle.std.specs.Prelude.{◌≡◌, Bool, true, false, cond, List, [], ◌∷◌, ◌++◌, ℕ, ◌≤◌, ◌<◌, ltb, length, drop, Result, Ok, Err}
+use Rattle.answers.specs.declared.Refusal.{Refusal}
 use Rattle.answers.specs.declared.Refusal.TheVariants.{TooLong, TooFewPlaces, NotPlan}
 use Rattle.answers.specs.Outcome.{Outcome, accepted, refused, refusal, limit, unless_refused, table_unless}
 use Rattle.factors.specs.Verdict.{verdict, VerdictMeaning}
-use Rattle.plans.specs.declared.PlanAnswer.{PlanAnswer}
-use Rattle.plans.specs.declared.PlanAnswer.TheVariants.{Plan, Refused}
+use Rattle.plans.specs.declared.Plan.{Plan}
 use Rattle.plan_lines.specs.Line.{width_of, line_limit, needs_long, plan_line, IsLineOf, IsLine, long?, line?, number_at, place_of_length, place_of_count, ends_in}
 
 -- a plan line carries no passes, so any piece may be a block
@@ -56,9 +56,9 @@ read_outcome s places = read_outcome_as (long? s) s places
 abbrev pub read_table : List ℕ → List ℕ → List ℕ
 read_table s t = read_table_as (long? s) s t
 
-abbrev pub plan_view : PlanAnswer → Outcome
-plan_view (Plan n k) = accepted (n ∷ k ∷ [])
-plan_view (Refused r) = refusal r
+abbrev pub plan_view : Result Plan Refusal → Outcome
+plan_view (Ok p) = accepted (p.n ∷ p.count ∷ [])
+plan_view (Err r) = refusal r
 
 -- ---- what they mean
 

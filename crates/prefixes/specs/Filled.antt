@@ -1,5 +1,5 @@
 -- The table of common prefixes while it is filled.
-use Rattle.std.specs.Prelude.{◌⊎◌, Bool, cond, List, ℕ, ◌+◌, ◌-◌, ◌^◌, ◌≤◌, ◌<◌, leb, ltb, length, get_or}
+use Rattle.std.specs.Prelude.{◌⊎◌, Bool, List, ℕ, ◌+◌, ◌-◌, ◌^◌, ◌≤◌, ◌<◌, min, length, get_or}
 use Rattle.prefixes.specs.Match.{view, Match}
 
 -- the places that are right when those from `from` to i were filled: these, and those after mid where `from` is not after it
@@ -15,6 +15,6 @@ Fillable mirrored v mid from to t =
     (mid ≤ length v) × (from ≤ mid + 1) × (from ≤ to) × (to ≤ length v + 1) × (from ≤ mid → to ≤ mid) × (length v < length t) × (length v < 2 ^ 32)
     × Filled (view mirrored v) (length v) mid from from t
 
--- the head start at i out of the box [l, r), whose symbols are those from mid on
-unfoldable pub head_of : List ℕ → ℕ → ℕ → ℕ → ℕ → ℕ
-head_of t mid i l r = cond (leb r i) 0 (cond (ltb (r - i) (get_or t (mid + (i - l)) 0)) (r - i) (get_or t (mid + (i - l)) 0))
+-- the head start at i out of the box [l, r), whose symbols are those from mid on: what the table has for the place that answers to i, as far as the box reaches
+abbrev pub head_of : List ℕ → ℕ → ℕ → ℕ → ℕ → ℕ
+head_of t mid i l r = min (r - i) (get_or t (mid + (i - l)) 0)

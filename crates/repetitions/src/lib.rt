@@ -8,7 +8,8 @@ ghost use Rattle.repetitions.specs.Judge.{split_outcome, SplitMeaning};
 
 pub mod inner;
 
-use answers::Counted;
+use answers::Refusal;
+use periods::Symbol;
 
 // Best split: choice 1 is fewest, 2 is most. Gives the size, and writes the ends of the
 // factorization of that size whose last block is longest, then the one before it, and so on. The
@@ -16,55 +17,27 @@ use answers::Counted;
 // with n/2 places for the ends of n symbols 7 never comes. Time: at most the product of the word's
 // length and a window, which has 512 symbols in edition 1 and 768 in edition 2. 500 bytes of stack,
 // and 48 a block.
-pub fn best_split(
-    w: &[u8],
+pub fn best_split<S: Symbol>(
+    w: &[S],
     edition: u32,
     choice: u32,
     ends: &mut [u32],
     work: &mut [u32],
-) -> Counted
-    ensures answer { counted_view result ≡ best_outcome w.now edition choice ends.old work.old }
-    ensures written { ends.new ≡ best_ends_table w.now edition choice ends.old work.old }
-    ensures worked { work.new ≡ best_work w.now edition choice work.old }
-    ensures meaning { BestMeaning w.now edition choice ends.old work.old (counted_view result) ends.new work.new }
+) -> Result<u32, Refusal>
+    ensures answer { counted_view result ≡ best_outcome (S.numbers w.now) edition choice ends.old work.old }
+    ensures written { ends.new ≡ best_ends_table (S.numbers w.now) edition choice ends.old work.old }
+    ensures worked { work.new ≡ best_work (S.numbers w.now) edition choice work.old }
+    ensures meaning { BestMeaning (S.numbers w.now) edition choice ends.old work.old (counted_view result) ends.new work.new }
 {
-    let none = [0u16; 0];
-    inner::best(w, &none, false, edition, choice, ends, work)
-}
-
-// The same of a word of 16-bit symbols.
-pub fn best_split_16(
-    w: &[u16],
-    edition: u32,
-    choice: u32,
-    ends: &mut [u32],
-    work: &mut [u32],
-) -> Counted
-    ensures answer { counted_view result ≡ best_outcome w.now edition choice ends.old work.old }
-    ensures written { ends.new ≡ best_ends_table w.now edition choice ends.old work.old }
-    ensures worked { work.new ≡ best_work w.now edition choice work.old }
-    ensures meaning { BestMeaning w.now edition choice ends.old work.old (counted_view result) ends.new work.new }
-{
-    let none = [0u8; 0];
-    inner::best(&none, w, true, edition, choice, ends, work)
+    inner::best(S::word(w), edition, choice, ends, work)
 }
 
 // Judge a split: accepted, with the number of blocks, exactly when the ends are those of a
 // factorization. Refusals: 1, 12; then for each end in turn 3, 4; then 5. Time: at most 256 × the
 // word's length.
-pub fn judge_split(w: &[u8], edition: u32, ends: &[u32]) -> Counted
-    ensures answer { counted_view result ≡ split_outcome w.now edition ends.now }
-    ensures meaning { SplitMeaning w.now edition ends.now (counted_view result) }
+pub fn judge_split<S: Symbol>(w: &[S], edition: u32, ends: &[u32]) -> Result<u32, Refusal>
+    ensures answer { counted_view result ≡ split_outcome (S.numbers w.now) edition ends.now }
+    ensures meaning { SplitMeaning (S.numbers w.now) edition ends.now (counted_view result) }
 {
-    let none = [0u16; 0];
-    inner::judge(w, &none, false, edition, ends)
-}
-
-// The same of a word of 16-bit symbols.
-pub fn judge_split_16(w: &[u16], edition: u32, ends: &[u32]) -> Counted
-    ensures answer { counted_view result ≡ split_outcome w.now edition ends.now }
-    ensures meaning { SplitMeaning w.now edition ends.now (counted_view result) }
-{
-    let none = [0u8; 0];
-    inner::judge(&none, w, true, edition, ends)
+    inner::judge(S::word(w), edition, ends)
 }

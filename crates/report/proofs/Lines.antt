@@ -1,22 +1,23 @@
 -- The lines of the runs and of the blocks: one more line, and how long they can be; and the finder's record of a block, which is its run. A block has one run
 -- that encloses it and has its unit (runs/proofs/Number.antt), so that the first record that the finder meets is that run. Assumes nothing.
-use mathlib.Core.Path.{◌≡◌, refl, sym, ap, ap₂, ◌∙◌}
+use mathlib.Core.Path.{◌≡◌, refl, ap, ap₂, ◌∙◌}
 use mathlib.Core.Logic.{◌≢◌}
 use mathlib.Core.Bool.{Bool, true, false, cond}
-use mathlib.Core.List.{List, [], ◌∷◌, ◌++◌, append-nil, append_assoc}
-use Prim.Native.Nat.{ℕ, zero, suc, ◌+◌, ◌*◌, ◌≤◌}
+use mathlib.Core.List.{List, [], ◌∷◌, ◌++◌}
+use Prim.Native.Nat.{ℕ, zero, suc, ◌+◌, ◌*◌, ◌≤◌, ◌<◌}
+use Rattle.std.proofs.Common.{add-one}
 use native.Mathlib.Omega.{arith}
 use native.Mathlib.Nat.{mul-le-mul_right}
 use lib.Dec.{eqb, eqb-suc-zero}
-use lib.ListN.{length, take, length-append, length-take}
+use lib.Seq.{drop-cons}
+use lib.ListN.{length, drop, drop_of_length-le, get_or, length-append}
 use Rattle.periods.specs.Period.{part, smallest_period, held_period}
 use Rattle.periods.proofs.Editions.{two_turns}
 use Rattle.periods.proofs.Claims.{smallest_period_unique}
 use Rattle.runs.specs.declared.Record.{Record}
-use Rattle.runs.specs.Table.{runs_of, numbers_of, records, record_at}
+use Rattle.runs.specs.Table.{runs_of, numbers_of}
 use Rattle.runs.proofs.Rows.{part_long}
 use Rattle.finder.specs.Find.{enclosing?, step, find_run}
-use Rattle.runs.proofs.Records.{records_none, records_more, length-records}
 use Rattle.factors.specs.Factorization.{text_of_blocks}
 use Rattle.repetitions.specs.Block.{Block}
 use Rattle.runs.specs.Number.{encloses?, first_number, run_number, block_numbers}
@@ -29,25 +30,16 @@ use Rattle.runs.proofs.Number.{run_numbered}
 
 -- ---- runs
 
-pub run_lines-none : (t : List ℕ) → run_lines 0 (records 0 t) ≡ []
-unfolding run_lines
-run_lines-none t = ap (run_lines 0) (records_none t)
+module _ (rows : List Record) (i : ℕ) where
+  -- the line of the record at hand, and those of the records after it
+  pub run_lines_more : (d : Record) → i < length rows → run_lines i (drop i rows) ≡ line run_name ((i + 1) ∷ numbers_of (get_or rows i d)) ++ run_lines (i + 1) (drop (i + 1) rows)
+  unfolding run_lines
+  run_lines_more d h = ap (run_lines i) (drop-cons rows i d h) ∙ rw (add-one i) refl
 
-run_lines_snoc : (rows : List Record) (r : Record) (i : ℕ) → run_lines i (rows ++ (r ∷ [])) ≡ run_lines i rows ++ line run_name ((i + length rows + 1) ∷ numbers_of r)
-unfolding run_lines
-run_lines_snoc [] r i = ap (λ (k : ℕ). line run_name (k ∷ numbers_of r) ++ []) {x = suc i} {y = i + 0 + 1} (omega arith) ∙ append-nil (line run_name ((i + 0 + 1) ∷ numbers_of r))
-run_lines_snoc (x ∷ rows) r i =
-    let e : suc i + length rows + 1 ≡ i + suc (length rows) + 1 = omega arith in
-    ap (λ (l : List ℕ). line run_name (suc i ∷ numbers_of x) ++ l) (run_lines_snoc rows r (suc i) ∙ ap (λ (k : ℕ). run_lines (suc i) rows ++ line run_name (k ∷ numbers_of r)) e)
-    ∙ sym (append_assoc (line run_name (suc i ∷ numbers_of x)) (run_lines (suc i) rows) (line run_name ((i + suc (length rows) + 1) ∷ numbers_of r)))
-
--- the line of one more record of a table
-pub run_lines_more : (t : List ℕ) (i : ℕ) → run_lines 0 (records i t) ++ line run_name ((i + 1) ∷ numbers_of (record_at t i)) ≡ run_lines 0 (records (i + 1) t)
-run_lines_more t i =
-    let e : i + 1 ≡ 0 + length (records i t) + 1 = omega (arith, length-records t i) in
-    ap (λ (k : ℕ). run_lines 0 (records i t) ++ line run_name (k ∷ numbers_of (record_at t i))) e
-    ∙ sym (run_lines_snoc (records i t) (record_at t i) 0)
-    ∙ ap (run_lines 0) (sym (records_more t i))
+  -- none is left
+  pub run_lines_done : length rows ≤ i → run_lines i (drop i rows) ≡ []
+  unfolding run_lines
+  run_lines_done h = rw (drop_of_length-le rows {i = i} h) refl
 
 pub run_lines_long : (rows : List Record) (i : ℕ) → length (run_lines i rows) ≤ run_bytes * length rows
 unfolding run_lines
@@ -114,11 +106,11 @@ find_is_run_number w i j K =
     find_first i j (smallest_period (part w i j)) (runs_of w) (run_numbered w i j K.0 (omega arith) (block_twice w i j K))
 
 -- the same for what the finder gives over the records that are held
-pub found_is_run_number : (w : List ℕ) (rs : List Record) (count i j unit found : ℕ) → Block held_period printed_turns w i j → take count rs ≡ runs_of w
-    → unit ≡ smallest_period (part w i j) → found ≡ find_run (take count rs) (i + 1) j unit → found + 1 ≡ run_number w i j
-found_is_run_number w rs count i j unit found K h e f =
+pub found_is_run_number : (w : List ℕ) (rs : List Record) (i j unit found : ℕ) → Block held_period printed_turns w i j → rs ≡ runs_of w
+    → unit ≡ smallest_period (part w i j) → found ≡ find_run rs (i + 1) j unit → found + 1 ≡ run_number w i j
+found_is_run_number w rs i j unit found K h e f =
     ap (λ (n : ℕ). n + 1) (f ∙ ap₂ (λ (l : List Record) (p : ℕ). find_run l (i + 1) j p) h e) ∙ find_is_run_number w i j K
 
 -- it is among them
-pub found_most : (rs : List Record) (count first last p found : ℕ) → found ≡ find_run (take count rs) first last p → found ≤ count
-found_most rs count first last p found e = omega (arith, e, find_most (take count rs) first last p, length-take count rs)
+pub found_most : (rs : List Record) (first last p found : ℕ) → found ≡ find_run rs first last p → found ≤ length rs
+found_most rs first last p found e = omega (arith, e, find_most rs first last p)

@@ -3,13 +3,12 @@
 use mathlib.Core.Path.{◌≡◌, refl, sym, ap, ◌∙◌}
 use mathlib.Core.Logic.{inl}
 use mathlib.Core.List.{List, [], ◌∷◌, ◌++◌}
-use Prim.Native.Nat.{ℕ, ◌+◌, ◌-◌, ◌*◌, ◌≤◌}
+use Prim.Native.Nat.{ℕ, ◌+◌, ◌*◌, ◌≤◌}
 use native.Mathlib.Omega.{arith}
 use borrow.Author.Tests.{le-ltb}
 use lib.ListN.{length, take, drop, length-append}
 use lib.Seq.{take_at}
-use Rattle.answers.specs.declared.Counted.{Counted}
-use Rattle.answers.specs.declared.Counted.TheVariants.{Count, Refused}
+use Rattle.std.specs.Prelude.{Result, Ok, Err}
 use Rattle.answers.specs.declared.Refusal.{Refusal}
 use Rattle.answers.specs.Outcome.{accepted, refusal, counted_view}
 use Rattle.laws.proofs.OneOrTwo.{one_or_two}
@@ -40,7 +39,7 @@ ends_of w choice = best_ends (choice_of choice) (block? held_period printed_turn
 pub record Blocked (w : List ℕ) (choice : ℕ) (name : List ℕ) (size : ℕ) (x : List ℕ) : Type 0 where
   pub split : Factorization (Block held_period printed_turns w) (length w) (ends_of w choice)
   pub few : 2 * size ≤ length w
-  pub ends : take (size - 0) x ≡ ends_of w choice
+  pub ends : take size x ≡ ends_of w choice
   pub lines : line name (size ∷ []) ++ block_lines w 0 0 (ends_of w choice) ≡ split_text w choice name
 
 module _ (w : List ℕ) (choice : ℕ) (name e t : List ℕ) (held : length w ≤ program_limit) (low : 1 ≤ choice) (high : choice ≤ 2) (places : length e ≡ most_blocks) (long : length t ≡ rows * (program_limit + 1)) where
@@ -51,7 +50,7 @@ module _ (w : List ℕ) (choice : ℕ) (name e t : List ℕ) (held : length w �
       (settled_work (repetition? held_period printed_turns) w choice t)
   given = promised_chosen w printed_edition choice e t (omega arith) (inl refl) _ _ _ (chosen_settled _ w choice e t (one_or_two choice low high) room)
 
-  pub split_refused : (a : Counted) (r : Refusal) → a ≡ Refused r → counted_view a ≡ best_outcome w printed_edition choice e t → name ++ none_text ≡ split_text w choice name
+  pub split_refused : (a : Result ℕ Refusal) (r : Refusal) → a ≡ Err r → counted_view a ≡ best_outcome w printed_edition choice e t → name ++ none_text ≡ split_text w choice name
   unfolding split_text
   split_refused a r is f =
       go (last_cell printed_turns w choice) (word_answers held_period printed_turns (choice_of choice) w (length w)) (ap counted_view (sym is) ∙ f ∙ sym given.answer)
@@ -64,7 +63,7 @@ module _ (w : List ℕ) (choice : ℕ) (name e t : List ℕ) (held : length w �
           let z : refusal r ≡ accepted (s ∷ []) = rw (le-ltb (length e) s k) at f in
           absurd (refused_accepted (refusal r) _ _ (s ∷ []) refl z)
 
-  pub split_counted : (a : Counted) (size : ℕ) → a ≡ Count size → counted_view a ≡ best_outcome w printed_edition choice e t → (x : List ℕ) → x ≡ best_ends_table w printed_edition choice e t → Blocked w choice name size x
+  pub split_counted : (a : Result ℕ Refusal) (size : ℕ) → a ≡ Ok size → counted_view a ≡ best_outcome w printed_edition choice e t → (x : List ℕ) → x ≡ best_ends_table w printed_edition choice e t → Blocked w choice name size x
   unfolding split_text
   split_counted a size is f x g =
       go (last_cell printed_turns w choice) refl (word_answers held_period printed_turns (choice_of choice) w (length w)) (ap counted_view (sym is) ∙ f ∙ sym given.answer) (g ∙ sym given.ends)
@@ -76,12 +75,11 @@ module _ (w : List ℕ) (choice : ℕ) (name e t : List ℕ) (held : length w �
           let k : s ≤ length e = omega (arith, edition_half printed_edition w (length w) (ends_of w choice) A.factorization, A.sized) in
           let z : accepted (size ∷ []) ≡ accepted (s ∷ []) = rw (le-ltb (length e) s k) at f in
           let y : size ≡ s = cc in
-          let q : size - 0 ≡ s = omega arith in
           let h : x ≡ ends_of w choice ++ drop s e = rw (le-ltb (length e) s k) at g in
           record {
             split = A.factorization;
             few = omega (arith, edition_half printed_edition w (length w) (ends_of w choice) A.factorization, A.sized);
-            ends = rw (q, h) (take_at (ends_of w choice) (drop s e) s A.sized);
+            ends = rw (y, h) (take_at (ends_of w choice) (drop s e) s A.sized);
             lines = rw (c, y) refl;
           }
 

@@ -1,13 +1,13 @@
 -- What the inner functions go by: the records of the runs, and how long a text can be.
-use Rattle.std.specs.Prelude.{◌≡◌, List, ℕ, ◌+◌, ◌*◌, ◌≤◌, length, take}
+use Rattle.std.specs.Prelude.{◌≡◌, List, ℕ, ◌+◌, ◌*◌, ◌≤◌, length}
 use Rattle.runs.specs.declared.Record.{Record}
 use Rattle.runs.specs.Table.{runs_of, stride, records}
 use Rattle.finder.specs.Find.{record_limit}
 use Rattle.report.specs.Text.{program_limit}
 
--- the first count of the records that are held are those of the word's runs
-abbrev pub RunsHeld : List ℕ → List Record → ℕ → Type 0
-RunsHeld w runs count = (count ≤ record_limit) × (take count runs ≡ runs_of w)
+-- the records are those of the word's runs
+abbrev pub RunsHeld : List ℕ → List Record → Type 0
+RunsHeld w runs = (length runs ≤ record_limit) × (runs ≡ runs_of w)
 
 -- the program takes the word, and the first count records of a table are those of its runs
 abbrev pub RunsListed : List ℕ → List ℕ → ℕ → Type 0

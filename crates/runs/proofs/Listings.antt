@@ -1,37 +1,29 @@
--- What a table may have of each run: the order in which the code tests for a white node, what is read from a key, and how long the numbers of some runs are. By
+-- What a table may have of each run: the test for a white node one condition at a time, what is read from a key, and how long the numbers of some runs are. By
 -- the definitions, and induction on the runs. Assumes nothing.
 use mathlib.Core.Path.{◌≡◌, refl, sym, ap, ◌∙◌, subst}
-use mathlib.Core.Bool.{Bool, true, false, cond, and-true, and-false}
+use mathlib.Core.Bool.{Bool, true, false, cond, and-true}
 use mathlib.Core.List.{List, [], ◌∷◌, ◌++◌, append_assoc}
 use Prim.Native.Nat.{ℕ, zero, suc, ◌+◌, ◌*◌, ◌/◌, ◌%◌, ◌≤◌, ◌<◌}
 use native.Mathlib.Omega.{arith}
 use borrow.Author.Tests.{le-leb, lt-leb}
 use lib.Dec.{T, leb, leb→le}
-use lib.ListN.{length, get_or, set, length-append}
-use lib.Seq.{sets}
+use lib.ListN.{length, get_or, length-append}
 use Rattle.periods.specs.Period.{held_period, unit_memory}
 use Rattle.runs.specs.declared.Record.{Record}
 use Rattle.runs.specs.declared.Listing.{Listing}
 use Rattle.runs.specs.declared.Listing.TheVariants.{Records, Keys, Marks}
 use Rattle.runs.specs.Run.{Entry}
 use Rattle.runs.specs.Table.{stride, numbers_of, flat}
-use Rattle.runs.specs.Listing.{node?, key_step, key_of, mark_of, entry_of, stride_of, flat_by}
+use Rattle.runs.specs.Listing.{node?, key_step, key_of, entry_of, stride_of, flat_by}
 
--- ---- the test for a node, in the order of the code
+-- ---- the test for a node, one condition at a time
 
 module _ (allowed : ℕ → Bool) (k x : ℕ) (r : Record) where
-  pub node_barred : allowed r.period ≡ false → false ≡ node? allowed k x r
-  node_barred h = simp (h, and-false (leb x r.last), and-false (leb (r.first + k * r.period) (x + 1)))
-
   pub node_early : x + 1 < r.first + k * r.period → false ≡ node? allowed k x r
   node_early h = rw (lt-leb (r.first + k * r.period) (x + 1) h) refl
 
   pub node_reached : allowed r.period ≡ true → r.first + k * r.period ≤ x + 1 → leb x r.last ≡ node? allowed k x r
   node_reached t h = rw (le-leb (r.first + k * r.period) (x + 1) h, t) (sym (and-true (leb x r.last)))
-
--- the mark of a run, whatever its root
-pub mark_is : (k x first last p : ℕ) (b : Bool) → b ≡ node? held_period k x (record { first = first; last = last; period = p; root = 0 }) → cond b 1 0 ≡ mark_of k x first last p
-mark_is k x first last p b e = ap (λ (c : Bool). cond c 1 0) e
 
 -- ---- keys
 
@@ -73,10 +65,6 @@ flat_by-append l (r ∷ rs) ss = ap (λ (x : List ℕ). entry_of l r ++ x) (flat
 pub flat_by-records : (rs : List Record) → flat_by Records rs ≡ flat rs
 flat_by-records [] = refl
 flat_by-records (r ∷ rs) = ap (λ (x : List ℕ). numbers_of r ++ x) (flat_by-records rs)
-
--- one number is stored
-pub one_stored : (t : List ℕ) (i v : ℕ) → set t i v ≡ sets t (1 * i) (v ∷ [])
-one_stored t i v = let e : 1 * i ≡ i = omega arith in rw e refl
 
 -- the key of an entry, by its number from 1
 pub key_at : (rs : List Record) (i : ℕ) (r : Record) → Entry rs (suc i) r → get_or (flat_by Keys rs) i 0 ≡ key_of r.first r.period

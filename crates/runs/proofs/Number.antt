@@ -32,10 +32,6 @@ pub record Passes (t : Record → Bool) (rows : List Record) (i : ℕ) : Type 0 
   pub passed : T (t row)
 
 module _ (t : Record → Bool) where
-  pub first_nothing : first_number t [] ≡ 0
-  unfolding first_number
-  first_nothing = refl
-
   -- what it means that none of more records passes
   none_passes : (r : Record) (rs : List Record) → first_number t (r ∷ rs) ≡ 0 → (t r ≡ false) × (first_number t rs ≡ 0)
   unfolding first_number

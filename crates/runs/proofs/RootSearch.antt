@@ -4,7 +4,7 @@ use mathlib.Core.Path.{◌≡◌, refl, sym, subst}
 use mathlib.Core.Logic.{◌⊎◌, inl, inr}
 use mathlib.Core.Bool.{true}
 use mathlib.Core.List.{List}
-use Prim.Native.Nat.{ℕ, suc, ◌+◌, ◌-◌, ◌*◌, ◌≤◌, ◌<◌}
+use Prim.Native.Nat.{ℕ, suc, max, ◌+◌, ◌-◌, ◌*◌, ◌≤◌, ◌<◌}
 use native.Mathlib.Omega.{arith}
 use native.Mathlib.Decide.{dec_lt, ℕ_discrete}
 use lib.ListN.{length}
@@ -73,12 +73,11 @@ module _ (w : List ℕ) (a p : ℕ) (fits : a + 2 * p ≤ length w) (unit : Smal
             absurd (overtaken (symbol w) a (a + 2 * p) p U a (omega arith) (omega arith) true least L best rival same 0 (inl refl)
             agreed l (omega arith) (omega arith) to h (omega arith) (omega arith))
 
-    pub best_passed : same < p → symbol w (rival + same) < symbol w (best + same) → Narrowed w a p best rival → (next : ℕ) → (next ≤ rival + 1) ⊎ (next ≤ best + same + 1)
+    pub best_passed : same < p → symbol w (rival + same) < symbol w (best + same) → Narrowed w a p best rival → (next : ℕ) → next ≤ max (best + same + 1) (rival + 1)
         → Narrowed w a p rival next
     best_passed h l (inl e) next m = absurd (omega (arith, beyond h l (omega arith)))
-    best_passed h l (inr k) next m = go m (ℕ_discrete least rival)
+    best_passed h l (inr k) next m = go (ℕ_discrete least rival)
       where
-        go : (next ≤ rival + 1) ⊎ (next ≤ best + same + 1) → Dec (least ≡ rival) → Narrowed w a p rival next
-        go m (yes e) = inl e
-        go (inl u) (no e) = inr (omega arith)
-        go (inr u) (no e) = inr (omega (arith, beyond h l (omega arith)))
+        go : Dec (least ≡ rival) → Narrowed w a p rival next
+        go (yes e) = inl e
+        go (no e) = inr (omega (arith, beyond h l (omega arith)))

@@ -42,10 +42,7 @@ pub fn is_node(run: Record, turns: u32, x: u32) -> bool
         return false;
     }
     let from = run.first as usize + turns as usize * unit;
-    if x as usize + 1 < from {
-        return false;
-    }
-    x <= run.last
+    from <= x as usize + 1 && x <= run.last
 }
 
 // The key of a run with period p that starts after boundary a.
@@ -53,11 +50,8 @@ pub fn key(a: usize, p: usize) -> u32
     requires { a < limit }
     ensures { result ≡ key_of (a + 1) p }
 {
-    let first = KEY_STEP * (a + 1);
-    if periods::UNIT_MEMORY < p {
-        return first as u32;
-    }
-    (first + p) as u32
+    let unit = if p <= periods::UNIT_MEMORY { p } else { 0 };
+    (KEY_STEP * (a + 1) + unit) as u32
 }
 
 // Record number i of a table, from 0. This is the one place where a record's numbers are read.
@@ -109,6 +103,7 @@ pub fn root(w: &[u16], a: usize, p: usize) -> usize
     let mut best = a;
     let mut rival = a + 1;
     let mut same: usize = 0;
+    // Kept: two starts move at once, by other steps each; a range would be no plainer.
     while rival < end {
         let x = w[best + same];
         let y = w[rival + same];
@@ -123,10 +118,7 @@ pub fn root(w: &[u16], a: usize, p: usize) -> usize
         }
         let past = best + same + 1;
         best = rival;
-        rival += 1;
-        if rival < past {
-            rival = past;
-        }
+        rival = past.max(rival + 1);
         same = 0;
     }
     best + 1

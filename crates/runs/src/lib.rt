@@ -8,7 +8,7 @@ ghost use Rattle.runs.specs.Listing.{stride_of};
 pub mod inner;
 
 // The record of a run: document 01's first, last and unit, and document 02's root.
-#[derive(Clone, Copy)]
+#[derive(Clone, Copy, Debug, PartialEq, Eq)]
 pub struct Record {
     pub first: u32,
     pub last: u32,
@@ -21,10 +21,11 @@ pub const STRIDE: usize = 4;
 
 // What a table has of each run: its record; its key, by which it is looked up; or a mark, 1 where the run
 // has a white node at a position and 0 elsewhere, by the turn number and the position.
-#[derive(Clone, Copy)]
+#[derive(Clone, Copy, Debug, PartialEq, Eq)]
 pub enum Listing {
     Records,
     Keys,
+    // Kept: the clauses of a mark are over any turn number.
     Marks(u32, u32),
 }
 
@@ -37,7 +38,6 @@ pub fn stride(listing: Listing) -> usize
 {
     match listing {
         Listing::Records => STRIDE,
-        Listing::Keys => 1,
-        Listing::Marks(_, _) => 1,
+        Listing::Keys | Listing::Marks(_, _) => 1,
     }
 }

@@ -1,8 +1,10 @@
 // Tables of cases, each in one text: a bar ends a row, and a comma stands before each number of a
 // row.
 ghost use Rattle.std.specs.Prelude.{◌≡◌, ◌≤◌, min, length, drop};
+ghost use Rattle.std.specs.Fn.{CalledAt};
+ghost use Rattle.std.specs.List.{FoldsTo};
 ghost use Rattle.std.proofs.lemmas.List.Edits.{sets};
-ghost use Rattle.show.specs.Cases.{place_of, value_from, values_in};
+ghost use Rattle.show.specs.Cases.{place_of, word_of, rows_in, value_from, values_in};
 
 use decimals::{COMMA, ZERO};
 
@@ -14,14 +16,33 @@ pub fn place(s: &[u8], from: usize, b: u8) -> usize
     ensures value { result ≡ place_of s.now from b }
     ensures upper_bound { (result ≤ length s.now) × (min from (length s.now) ≤ result) }
 {
-    let mut i = from;
-    while i < s.len() {
+    for i in from..s.len() {
         if s[i] == b {
             return i;
         }
-        i += 1;
     }
     s.len()
+}
+
+// The bytes before the first comma.
+pub fn word(row: &[u8]) -> &[u8]
+    ensures { result.now ≡ word_of row.now }
+{
+    &row[..place(row, 0, COMMA)]
+}
+
+// Calls the closure on each row, in order.
+pub fn rows<F: FnMut(&[u8])>(table: &[u8], mut visit: F)
+    requires { F.IsAlwaysCallable visit }
+    ensures { (last : F) × FoldsTo (λ p x q. CalledAt F.FnMut p x tt q) visit (rows_in table.now) last }
+{
+    let mut at = 0;
+    // Kept: two ends move, a range would be no plainer.
+    while at < table.len() {
+        let end = place(table, at, BAR);
+        visit(&table[at..end]);
+        at = end + 1;
+    }
 }
 
 // The number that the digits from a place on spell, below 2³².
@@ -29,18 +50,11 @@ pub fn value(s: &[u8], from: usize) -> u32
     ensures { result ≡ value_from 0 (drop from s.now) }
 {
     let mut x: u32 = 0;
-    let mut i = from;
-    while i < s.len() {
-        let b = s[i];
-        if b < ZERO {
+    for i in from..s.len() {
+        let b @ b'0'..=b'9' = s[i] else {
             return x;
-        }
-        if ZERO + 9 < b {
-            return x;
-        }
-        let y = (x as u64) * 10 + (b - ZERO) as u64;
-        x = (y % 4294967296) as u32;
-        i += 1;
+        };
+        x = ((u64::from(x) * 10 + u64::from(b - ZERO)) % 4294967296) as u32;
     }
     x
 }
@@ -50,18 +64,15 @@ pub fn values(s: &[u8], t: &mut [u32]) -> usize
     ensures value { result ≡ min (length (values_in s.now)) (length t.old) }
     ensures t_after { t.new ≡ sets t.old 0 (values_in s.now) }
 {
-    let mut k: usize = 0;
-    let mut i: usize = 0;
-    while i < s.len() {
-        let at = i;
-        i += 1;
-        if s[at] != COMMA {
+    let mut k = 0;
+    for (i, b) in s.iter().enumerate() {
+        if *b != COMMA {
             continue;
         }
         if t.len() <= k {
             return k;
         }
-        t[k] = value(s, i);
+        t[k] = value(s, i + 1);
         k += 1;
     }
     k

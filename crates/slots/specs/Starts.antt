@@ -1,9 +1,9 @@
 -- The starts of the squares that end at a boundary inside a run, and which of them is the best. Twice the unit of the run is `two`, and the run starts after
 -- boundary a.
-use Rattle.std.specs.Prelude.{◌≡◌, cond, List, ℕ, min, ◌+◌, ◌-◌, ◌*◌, ◌%◌, ◌≤◌, ◌<◌, ltb, eqb, length, get_or}
+use Rattle.std.specs.Prelude.{◌≡◌, cond, List, ℕ, min, ◌+◌, ◌-◌, ◌*◌, ◌%◌, ◌≤◌, ◌<◌, ltb, eqb, get_or}
 use Rattle.answers.specs.Outcome.{limit}
 use Rattle.factors.specs.Factorization.{Choice, smallest, largest}
-use Rattle.factors.specs.Table.{none, rows}
+use Rattle.factors.specs.Table.{none}
 
 -- the number by which sizes are compared: less is better, and none is worst
 abbrev pub rank : Choice → ℕ → ℕ
@@ -34,9 +34,9 @@ pub record Start (a two e j : ℕ) : Type 0 where
 abbrev pub slot_of : ℕ → ℕ → ℕ → ℕ → ℕ
 slot_of n a two e = n + 1 + (n + 1) + (a + (e - a) % two)
 
--- boundary e of a word of n symbols lies in the run, and the table has its four rows
-abbrev pub InRun : ℕ → ℕ → ℕ → ℕ → List ℕ → Type 0
-InRun n a two e t = (n ≤ limit) × (1 ≤ two) × (two ≤ 2 * n) × (a < e) × (e ≤ n) × (rows * (n + 1) ≤ length t)
+-- boundary e of a word of n symbols lies in the run
+abbrev pub InRun : ℕ → ℕ → ℕ → ℕ → Type 0
+InRun n a two e = (n ≤ limit) × (1 ≤ two) × (two ≤ 2 * n) × (a < e) × (e ≤ n)
 
 -- what is kept there is a boundary of the word, once the run held a square `two` before e
 abbrev pub Readable : ℕ → List ℕ → ℕ → ℕ → ℕ → Type 0

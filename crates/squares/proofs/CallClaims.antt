@@ -77,10 +77,9 @@ module _ (w : List ℕ) (choice : ℕ) (e t : List ℕ) where
           by (promised_chosen (omega arith) _ _ _ record { answer = refl; ends = refl; work = refl })
           (chosen (omega arith) (chosen_means Square square? square_decides w choice e t (omega arith)))
 
-  -- what the call ensures, from the three promises
-  pub squares_answered : (o : Outcome) (x y : List ℕ) → Promised o x y
-      → (o ≡ squares_outcome w choice e t) × ((x ≡ squares_ends w choice e t) × ((y ≡ squares_work w choice t) × SquaresMeaning w choice e t o x y))
-  squares_answered o x y P = (P.answer, (P.ends, (P.work, rw (P.answer, P.ends, P.work) squares_means)))
+  -- so the promises give the meaning
+  pub squares_given : (o : Outcome) (x y : List ℕ) → Promised o x y → SquaresMeaning w choice e t o x y
+  squares_given o x y P = rw (P.answer, P.ends, P.work) squares_means
 
   -- CLAIM: n/2 places for the ends suffice: no answer that means what the documents say is 7
   pub squares_suffice : length w / 2 ≤ length e → (o : Outcome) (x y : List ℕ) → SquaresMeaning w choice e t o x y → (i : ℕ) → o ≢ refused 7 i
@@ -106,5 +105,5 @@ module _ (w ends : List ℕ) where
       go (yes h) = judge.SquaresJudgedMeaning.too_long h (sym (squares_judged_too_long h))
       go (no h) = judge.SquaresJudgedMeaning.judged (omega arith) (subst (Judged Square w ends) (squares_judged_fine (omega arith)) (judged_means Square square? square_decides w ends))
 
-  pub squares_judged_answered : (o : Outcome) → o ≡ squares_judged_outcome w ends → (o ≡ squares_judged_outcome w ends) × SquaresJudgedMeaning w ends o
-  squares_judged_answered o e = (e, subst (SquaresJudgedMeaning w ends) (sym e) squares_judged_means)
+  pub squares_judged_given : (o : Outcome) → o ≡ squares_judged_outcome w ends → SquaresJudgedMeaning w ends o
+  squares_judged_given o e = rw e squares_judged_means

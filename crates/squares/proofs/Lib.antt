@@ -2,4 +2,3 @@ pub mod CallClaims
 pub mod Determined
 pub mod Most
 pub mod Examples
-pub mod Settling

@@ -4,28 +4,9 @@
 // list shows the lent places after it. Each line is compared with the file stdout.
 #![tactic(auto)]
 
-use answers::Counted;
-use decimals::COMMA;
-use show::{field, outcome, text};
-
-// Which call a table of cases is for, and what the numbers of a row are, behind the edition, which
-// stands first in every row but those of runs.
-#[derive(Clone, Copy)]
-enum Call {
-    // the places that are lent
-    Runs,
-    // the places, and the position
-    Nodes,
-    // the places for ends, those for work, and the choice; none for both choices, with a place more
-    // than is needed
-    Best,
-    // the ends
-    Judge,
-    // the places, and the ends
-    Path,
-    // the path's numbers
-    JudgePath,
-}
+use answers::Refusal;
+use show::cases::{rows, values, word};
+use show::{field, list_line, outcome, part, text};
 
 fn main(rt: HostRuntime) {
     let rt = &rt;
@@ -41,18 +22,15 @@ fn main(rt: HostRuntime) {
 // before each that it precedes.
 fn graph(rt: &impl Print) {
     rows(
-        rt,
-        Call::Runs,
         b"aabaabaa,18|aabaabaa,16|aabaabaa,15|aabaabaa,12|aabaabaa,0|,0|,2|ab,1|aaaa,4|ababa,5|\
         abaabaababaabaabababa,64|aabaabaacbbcbbcbb,64|\
         abababab,5|aaaaaabbbccc,13|aaaabababab,9|aaabaaabaaabaaa,21|\
         ababbaba,17|bababab,4|cabcabca,4|abacabacab,4|abaaabaaabaa,17|",
+        |r| runs_row(rt, r),
     );
     symbols(rt);
     rich(rt);
     rows(
-        rt,
-        Call::Nodes,
         b"aabaabaa,1,3,1|aabaabaa,1,3,2|aabaabaa,1,3,5|aabaabaa,1,1,6|aabaabaa,1,3,8|\
         aabaabaa,1,2,8|aabaabaa,1,1,8|aabaabaa,1,3,0|aabaabaa,1,3,9|,1,0,1|aa,1,1,2|\
         abaabaababaabaabababa,1,8,21|\
@@ -63,6 +41,7 @@ fn graph(rt: &impl Print) {
         aaabaaabaaabaaa,2,1,15|abaabaababaabaabababa,2,8,9|abaabaababaabaabababa,2,8,21|\
         abababab,0,2,8|abababab,3,2,8|abababab,4294967295,2,8|\
         abababab,0,2,0|abababab,3,2,9|abababab,4294967295,0,8|",
+        |r| nodes_row(rt, r),
     );
 }
 
@@ -83,37 +62,32 @@ fn symbols(rt: &impl Print) {
 fn rich(rt: &impl Print) {
     let mut w = [97u8; 4096];
     let mut places = [0u32; 18];
-    let zero: usize = 0;
-    let end: usize = 125;
     w[1] = 98;
     w[2] = 98;
-    show::cases::values(
+    values(
         b",3,5,11,13,24,37,56,69,125,162,218,380,505,667,1172,1552,2057,3609",
         &mut places,
     );
     series(&mut w, &places);
     near(rt, b"aa");
     near(rt, b"aabaabbaabaabb");
-    near(rt, &w[zero..end]);
+    let (front, _) = w.split_at(125);
+    near(rt, front);
     named_near(rt, b"4096 rich in runs", &w);
 }
 
 // A series of words with many runs for their length: each begins with the one before it and goes on
 // with an earlier one. So after its first three symbols the word begins again at each of the places.
 fn series(w: &mut [u8], places: &[u32]) {
-    let mut k: usize = 0;
-    while k < places.len() {
-        begin_again(w, places[k] as usize);
-        k += 1;
+    for place in places {
+        begin_again(w, *place as usize);
     }
 }
 
 // The symbols from a place on become those from the first on.
 fn begin_again(w: &mut [u8], place: usize) {
-    let mut i = place;
-    while i < w.len() {
+    for i in place..w.len() {
         w[i] = w[i - place];
-        i += 1;
     }
 }
 
@@ -125,22 +99,20 @@ fn near(rt: &impl Print, w: &[u8]) {
 // holds.
 fn named_near(rt: &impl Print, name: &[u8], w: &[u8]) {
     let mut table = [7u32; 16384];
-    let zero: usize = 0;
     if w.len() <= 4096 {
         let n = w.len() as u32;
-        let end = 4 * w.len();
         text(rt, b"runs,");
         text(rt, name);
         field(rt, n);
         field(rt, 4 * n);
-        near_in(rt, w, &mut table[zero..end]);
+        near_in(rt, w, &mut table[..4 * w.len()]);
     }
 }
 
 fn near_in(rt: &impl Print, w: &[u8], table: &mut [u32]) {
     outcome(rt, run_table::runs(w, table));
     if table.len() <= 64 {
-        list(rt, b"", table);
+        list_line(rt, b"", table);
     } else {
         text(rt, b"\n");
     }
@@ -150,8 +122,6 @@ fn near_in(rt: &impl Print, w: &[u8], table: &mut [u32]) {
 // afterwards shows whether it was used.
 fn splits(rt: &impl Print) {
     rows(
-        rt,
-        Call::Best,
         b",1|a,1|ab,1|aa,1|aaaa,1|aaaaa,1|ababa,1|baa,1|aabb,1|aabaabaa,1|\
         abaabaababaabaabababa,1|aabaabaacbbcbbcbb,1|\
         aabaabaa,1,2,36,0|aabaabaa,1,2,36,3|aabaabaa,1,2,35,3|aabaabaa,1,2,35,1|aabaabaa,1,1,36,2|\
@@ -165,10 +135,9 @@ fn splits(rt: &impl Print) {
         ababa,2,0,24,1|,2,0,3,1|,2,0,4,1|\
         aaa,0,1,16,1|aaa,3,1,16,2|aaa,4294967295,1,16,1|\
         aaa,0,1,16,3|aaa,3,1,15,1|baa,4294967295,1,16,1|aaa,0,0,16,1|",
+        |r| best_row(rt, r),
     );
     rows(
-        rt,
-        Call::Judge,
         b"aabaabaa,1|aabaabaa,1,8|aabaabaa,1,2,8|aabaabaa,1,3,8|aabaabaa,1,2,2,8|aabaabaa,1,2,9|\
         aabaabaa,1,2|aabaabaa,1,2,4,8|aabaabaa,1,0|aabaabaa,1,4294967295|,1|,1,1|\
         aabaabaacbbcbbcbb,1,6,8,15,17|aabaabaacbbcbbcbb,1,2,8,15,17|\
@@ -179,13 +148,12 @@ fn splits(rt: &impl Print) {
         aaaaaabbbccc,2,6,9,11,12|aaaabababab,2,3,11|aaaabababab,2,4,11|aaabaaabaaabaaa,2,12,15|\
         abababab,0,8|abababab,3,8|abababab,4294967295,8|\
         abababab,0,9|abababab,3,3,8|abababab,4294967295|",
+        |r| judge_row(rt, r),
     );
 }
 
 fn paths(rt: &impl Print) {
     rows(
-        rt,
-        Call::Path,
         b"aabaabaa,1,2,8|aabaabaa,1,3,2,8|aabaabaa,1,2,2,8|aabaabaa,1,1,2,8|aabaabaa,1,1,3,8|\
         aabaabaa,1,0,2,9|aabaabaa,1,3,2|aabaabaacbbcbbcbb,1,4,6,8,15,17|\
         abaabaababaabaabababa,1,5,6,10,16,21|abababab,1,2,4,8|\
@@ -195,10 +163,9 @@ fn paths(rt: &impl Print) {
         aaabaaabaaabaaa,2,2,3,15|aaabaaabaaabaaa,2,2,12,15|\
         abababab,0,2,8|abababab,3,2,8|abababab,4294967295,2,8|\
         abababab,0,2,9|abababab,3,2,3,8|abababab,4294967295,2|abababab,0,0,8|",
+        |r| path_row(rt, r),
     );
     rows(
-        rt,
-        Call::JudgePath,
         b"aabaabaa,1,1,2,2,8|aabaabaa,1,2,8|aabaabaa,1,1,2,1,8|aabaabaa,1,1,2,9,8|\
         aabaabaa,1,1,2,5,8|aabaabaa,1,0,8|aabaabaa,1,1,2,2|aabaabaa,1,1,2,2,2|aabaabaa,1,1,2,2,9|\
         aabaabaa,1,1,2|aabaabaa,1|,1|,1,1|abababab,1,1,4,1,8|aaaaaabbbccc,1,1,6,2,9,3,12|\
@@ -210,91 +177,95 @@ fn paths(rt: &impl Print) {
         aaabaaabaaabaaa,2,2,15|aaabaaabaaabaaa,2,1,3,2,15|aaabaaabaaabaaa,2,2,12,5,15|\
         abababab,0,1,8|abababab,3,1,8|abababab,4294967295,1,8|\
         abababab,0,1|abababab,3,1,9|abababab,4294967295,2,8|abababab,0|",
+        |r| judge_path_row(rt, r),
     );
 }
 
-fn rows(rt: &impl Print, call: Call, table: &[u8]) {
-    let mut at: usize = 0;
-    while at < table.len() {
-        let end = show::cases::place(table, at, show::cases::BAR);
-        row(rt, call, &table[at..end]);
-        at = end + 1;
-    }
-}
-
-// The first number goes apart from the others; a row has at most ten.
-fn row(rt: &impl Print, call: Call, row: &[u8]) {
-    let zero: usize = 0;
-    let one: usize = 1;
+// What a row holds: a word, the edition, and the numbers behind it; a row has at most ten numbers.
+fn ask<F: FnOnce(&[u8], u32, &[u32])>(row: &[u8], call: F)
+    requires { F.IsAlwaysCallable call }
+{
     let mut numbers = [0u32; 10];
-    let count = show::cases::values(row, &mut numbers);
-    let first = numbers[0];
-    let end = show::cases::place(row, zero, COMMA);
-    if one <= count {
-        ask(rt, call, &row[zero..end], first, &numbers[one..count]);
+    let count = values(row, &mut numbers);
+    if let Some((edition, others)) = numbers[..count].split_first() {
+        call(word(row), *edition, others);
     }
 }
 
-fn ask(rt: &impl Print, call: Call, w: &[u8], first: u32, numbers: &[u32]) {
-    match call {
-        Call::Runs => runs_of(rt, w, first),
-        Call::Nodes => lend(rt, call, w, first, numbers),
-        Call::Best => best(rt, w, first, numbers),
-        Call::Judge => judged(rt, w, first, numbers),
-        Call::Path => lend(rt, call, w, first, numbers),
-        Call::JudgePath => path_judged(rt, w, first, numbers),
+// Lends so many places.
+fn lend<F: FnOnce(&mut [u32])>(places: u32, call: F)
+    requires { F.IsAlwaysCallable call }
+{
+    let mut table = [7u32; 64];
+    if let Some(table) = table.get_mut(..places as usize) {
+        call(table);
     }
 }
 
-fn judged(rt: &impl Print, w: &[u8], edition: u32, ends: &[u32]) {
-    answered(
-        rt,
-        b"judge,",
-        w,
-        edition,
-        repetitions::judge_split(w, edition, ends),
-    );
-    list(rt, b" ends", ends);
+// In place of the edition, the places that are lent.
+fn runs_row(rt: &impl Print, row: &[u8]) {
+    ask(row, |w, places, _| {
+        lend(places, |table| runs_in(rt, w, places, table));
+    });
 }
 
-fn path_judged(rt: &impl Print, w: &[u8], edition: u32, numbers: &[u32]) {
-    answered(
-        rt,
-        b"judge path,",
-        w,
-        edition,
-        paths::judge_path(w, edition, numbers),
-    );
-    list(rt, b" numbers", numbers);
+// The places, and the position.
+fn nodes_row(rt: &impl Print, row: &[u8]) {
+    ask(row, |w, edition, numbers| {
+        if let [places, position] = numbers {
+            lend(*places, |table| nodes_in(rt, w, edition, *position, table));
+        }
+    });
+}
+
+// The places for ends, those for work, and the choice; none for both choices, with a place more than
+// is needed.
+fn best_row(rt: &impl Print, row: &[u8]) {
+    ask(row, |w, edition, numbers| best(rt, w, edition, numbers));
+}
+
+// The ends.
+fn judge_row(rt: &impl Print, row: &[u8]) {
+    ask(row, |w, edition, ends| {
+        let answer = repetitions::judge_split(w, edition, ends);
+        answered(rt, b"judge,", w, edition, answer);
+        list_line(rt, b" ends", ends);
+    });
+}
+
+// The places, and the ends.
+fn path_row(rt: &impl Print, row: &[u8]) {
+    ask(row, |w, edition, numbers| {
+        if let Some((places, ends)) = numbers.split_first() {
+            lend(*places, |table| path_in(rt, w, edition, ends, table));
+        }
+    });
+}
+
+// The path's numbers.
+fn judge_path_row(rt: &impl Print, row: &[u8]) {
+    ask(row, |w, edition, numbers| {
+        let answer = paths::judge_path(w, edition, numbers);
+        answered(rt, b"judge path,", w, edition, answer);
+        list_line(rt, b" numbers", numbers);
+    });
 }
 
 fn best(rt: &impl Print, w: &[u8], edition: u32, numbers: &[u32]) {
-    if numbers.len() == 3 {
-        best_of(rt, w, edition, numbers[2], numbers[0], numbers[1]);
+    if let [places, space, choice] = numbers {
+        best_of(rt, w, edition, *choice, *places as usize, *space as usize);
     } else if w.len() <= 24 {
-        let space = (4 * w.len() + 5) as u32;
+        let space = 4 * w.len() + 5;
         best_of(rt, w, edition, 1, 12, space);
         best_of(rt, w, edition, 2, 12, space);
     }
 }
 
-fn best_of(rt: &impl Print, w: &[u8], edition: u32, choice: u32, places: u32, space: u32) {
+fn best_of(rt: &impl Print, w: &[u8], edition: u32, choice: u32, places: usize, space: usize) {
     let mut ends = [7u32; 64];
     let mut work = [7u32; 128];
-    let zero: usize = 0;
-    let last = places as usize;
-    let end = space as usize;
-    if places <= 64 {
-        if space <= 128 {
-            best_in(
-                rt,
-                w,
-                edition,
-                choice,
-                &mut ends[zero..last],
-                &mut work[zero..end],
-            );
-        }
+    if let (Some(ends), Some(work)) = (ends.get_mut(..places), work.get_mut(..space)) {
+        best_in(rt, w, edition, choice, ends, work);
     }
 }
 
@@ -311,62 +282,8 @@ fn best_in(
     field(rt, edition);
     field(rt, choice);
     outcome(rt, repetitions::best_split(w, edition, choice, ends, work));
-    list(rt, b" ends", ends);
-    list(rt, b" work", work);
-}
-
-fn runs_of(rt: &impl Print, w: &[u8], places: u32) {
-    let mut table = [7u32; 64];
-    let zero: usize = 0;
-    let last = places as usize;
-    if places <= 64 {
-        runs_in(rt, w, places, &mut table[zero..last]);
-    }
-}
-
-// Lends as many places as the first of the numbers says, and passes on those behind it.
-fn lend(rt: &impl Print, call: Call, w: &[u8], edition: u32, numbers: &[u32]) {
-    let one: usize = 1;
-    let end = numbers.len();
-    if one <= end {
-        lend_places(rt, call, w, edition, numbers[0], &numbers[one..end]);
-    }
-}
-
-fn lend_places(rt: &impl Print, call: Call, w: &[u8], edition: u32, places: u32, numbers: &[u32]) {
-    let mut table = [7u32; 64];
-    let zero: usize = 0;
-    let last = places as usize;
-    if places <= 64 {
-        lent(
-            rt,
-            call,
-            w,
-            edition,
-            places,
-            numbers,
-            &mut table[zero..last],
-        );
-    }
-}
-
-fn lent(
-    rt: &impl Print,
-    call: Call,
-    w: &[u8],
-    edition: u32,
-    places: u32,
-    numbers: &[u32],
-    table: &mut [u32],
-) {
-    match call {
-        Call::Nodes => nodes_in(rt, w, edition, places, numbers, table),
-        Call::Path => path_in(rt, w, edition, numbers, table),
-        Call::Runs => {}
-        Call::Best => {}
-        Call::Judge => {}
-        Call::JudgePath => {}
-    }
+    list_line(rt, b" ends", ends);
+    list_line(rt, b" work", work);
 }
 
 fn runs_in(rt: &impl Print, w: &[u8], places: u32, table: &mut [u32]) {
@@ -374,7 +291,7 @@ fn runs_in(rt: &impl Print, w: &[u8], places: u32, table: &mut [u32]) {
     text(rt, w);
     field(rt, places);
     outcome(rt, run_table::runs(w, table));
-    list(rt, b"", table);
+    list_line(rt, b"", table);
 }
 
 // The same of a word that is shown by a name, with five places lent.
@@ -383,63 +300,31 @@ fn named_runs(rt: &impl Print, name: &[u8], w: &[u8]) {
     text(rt, b"runs,");
     text(rt, name);
     outcome(rt, run_table::runs(w, &mut table));
-    list(rt, b"", &table);
+    list_line(rt, b"", &table);
 }
 
-fn nodes_in(
-    rt: &impl Print,
-    w: &[u8],
-    edition: u32,
-    places: u32,
-    numbers: &[u32],
-    table: &mut [u32],
-) {
-    if numbers.len() == 1 {
-        let position = numbers[0];
-        text(rt, b"nodes,");
-        text(rt, w);
-        field(rt, edition);
-        field(rt, position);
-        field(rt, places);
-        outcome(rt, nodes::nodes(w, edition, position, table));
-        list(rt, b"", table);
-    }
+fn nodes_in(rt: &impl Print, w: &[u8], edition: u32, position: u32, table: &mut [u32]) {
+    text(rt, b"nodes,");
+    text(rt, w);
+    field(rt, edition);
+    field(rt, position);
+    field(rt, (table.len() % 65536) as u32);
+    outcome(rt, nodes::nodes(w, edition, position, table));
+    list_line(rt, b"", table);
 }
 
 fn path_in(rt: &impl Print, w: &[u8], edition: u32, ends: &[u32], table: &mut [u32]) {
-    answered(
-        rt,
-        b"path,",
-        w,
-        edition,
-        paths::path_of_split(w, edition, ends, table),
-    );
-    list(rt, b" ends", ends);
-    list(rt, b" runs", table);
+    let answer = paths::path_of_split(w, edition, ends, table);
+    answered(rt, b"path,", w, edition, answer);
+    list_line(rt, b" ends", ends);
+    list_line(rt, b" runs", table);
 }
 
-fn answered(rt: &impl Print, name: &[u8], w: &[u8], edition: u32, answer: Counted) {
+fn answered(rt: &impl Print, name: &[u8], w: &[u8], edition: u32, answer: Result<u32, Refusal>) {
     text(rt, name);
     text(rt, w);
     field(rt, edition);
     outcome(rt, answer);
-}
-
-// A name, a colon, the numbers, each after a space, and the line's end.
-fn list(rt: &impl Print, name: &[u8], xs: &[u32]) {
-    text(rt, name);
-    text(rt, b":");
-    show::numbers(rt, 32, xs);
-    text(rt, b"\n");
-}
-
-// The places from one up to another, where the list has them.
-fn part(rt: &impl Print, name: &[u8], xs: &[u32], from: usize, to: usize) {
-    if to <= xs.len() {
-        if from <= to {
-            list(rt, name, &xs[from..to]);
-        }
-    }
 }
 
 // 4,096 equal symbols.
@@ -502,7 +387,7 @@ fn too_long(rt: &impl Print) {
     let mut table = [7u32; 4];
     text(rt, b"70001 equal, runs");
     outcome(rt, run_table::runs(&w, &mut table));
-    list(rt, b"", &table);
+    list_line(rt, b"", &table);
     too_long_in(rt, &w, 1);
     too_long_in(rt, &w, 2);
     too_long_in(rt, &w, 0);
@@ -517,14 +402,14 @@ fn too_long_in(rt: &impl Print, w: &[u8], edition: u32) {
 
 fn long_splits(rt: &impl Print, w: &[u8], edition: u32, table: &mut [u32], ends: &mut [u32]) {
     over(rt, edition, b", nodes", nodes::nodes(w, edition, 0, table));
-    list(rt, b"", table);
+    list_line(rt, b"", table);
     over(
         rt,
         edition,
         b", best",
         repetitions::best_split(w, edition, 0, ends, table),
     );
-    list(rt, b"", table);
+    list_line(rt, b"", table);
     over(
         rt,
         edition,
@@ -541,7 +426,7 @@ fn long_paths(rt: &impl Print, w: &[u8], edition: u32, table: &mut [u32]) {
         b", path",
         paths::path_of_split(w, edition, &[0], table),
     );
-    list(rt, b"", table);
+    list_line(rt, b"", table);
     over(
         rt,
         edition,
@@ -551,12 +436,12 @@ fn long_paths(rt: &impl Print, w: &[u8], edition: u32, table: &mut [u32]) {
     text(rt, b"\n");
 }
 
-fn over(rt: &impl Print, edition: u32, name: &[u8], answer: Counted) {
+fn over(rt: &impl Print, edition: u32, name: &[u8], answer: Result<u32, Refusal>) {
     named(rt, b"70001 equal", edition, name, answer);
 }
 
 // The word, the edition, a name and the answer.
-fn named(rt: &impl Print, w: &[u8], edition: u32, name: &[u8], answer: Counted) {
+fn named(rt: &impl Print, w: &[u8], edition: u32, name: &[u8], answer: Result<u32, Refusal>) {
     text(rt, w);
     field(rt, edition);
     text(rt, name);
@@ -566,28 +451,22 @@ fn named(rt: &impl Print, w: &[u8], edition: u32, name: &[u8], answer: Counted) 
 // Words of a linear congruential generator: lengths from 1 to 24, over 2 or 3 letters.
 fn generated(rt: &impl Print) {
     let mut seed: u32 = 12345;
-    let mut i: u32 = 0;
-    while i < 300 {
-        seed = word(rt, seed, (1 + i % 24) as usize, 2 + i % 2);
-        i += 1;
+    for i in 0..300 {
+        seed = generate(rt, seed, 1 + i % 24, 2 + i as u32 % 2);
     }
 }
 
 // One word of up to 24 letters; gives the next seed.
-fn word(rt: &impl Print, seed: u32, n: usize, letters: u32) -> u32 {
-    let mut w = [0u8; 24];
-    let zero: usize = 0;
+fn generate(rt: &impl Print, seed: u32, n: usize, letters: u32) -> u32 {
+    let mut word = [0u8; 24];
     let mut s = seed;
-    let mut i: usize = 0;
-    if 24 < n {
-        return seed;
+    if let Some(w) = word.get_mut(..n) {
+        for x in w.iter_mut() {
+            s = show::next(s);
+            *x = show::letter(s, letters);
+        }
+        sizes(rt, w);
     }
-    while i < n {
-        s = show::next(s);
-        w[i] = show::letter(s, letters);
-        i += 1;
-    }
-    sizes(rt, &w[zero..n]);
     s
 }
 

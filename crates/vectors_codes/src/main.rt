@@ -4,8 +4,7 @@
 // after the call. Each line is compared with the file stdout.
 #![tactic(auto)]
 
-use periods::{Description, PartAnswer};
-use show::{field, outcome, text};
+use show::{description, field, list, outcome, text};
 
 // The aabaabaa of document 01, with 256 for a and 1 for b.
 const WORD: [u16; 8] = [256, 256, 1, 256, 256, 1, 256, 256];
@@ -82,7 +81,7 @@ fn best_refused(rt: &impl Print) {
     best_squares(rt, &WORD, 2, &mut ends, &mut work);
 }
 
-// As many symbols as a word can have.
+// A long word of the greatest symbol.
 fn limit(rt: &impl Print) {
     let longest = [65535u16; 4096];
     let mut table = [7u32; 5];
@@ -104,15 +103,14 @@ fn word(rt: &impl Print, w: &[u16], edition: u32) {
 
 // Both best calls on a word of at most eight symbols, with a place more than is needed.
 fn both_best(rt: &impl Print, w: &[u16], edition: u32, choice: u32) {
-    let zero: usize = 0;
     let mut ends = [7u32; 3];
     let mut work = [7u32; 37];
     let mut other_ends = [7u32; 3];
     let mut other_work = [7u32; 37];
     if w.len() <= 8 {
         let end = 4 * w.len() + 5;
-        best_split(rt, w, edition, choice, &mut ends, &mut work[zero..end]);
-        best_squares(rt, w, choice, &mut other_ends, &mut other_work[zero..end]);
+        best_split(rt, w, edition, choice, &mut ends, &mut work[..end]);
+        best_squares(rt, w, choice, &mut other_ends, &mut other_work[..end]);
     }
 }
 
@@ -128,7 +126,7 @@ fn lent_page(rt: &impl Print, w: &[u16], edition: u32, ends: &[u32]) {
     page(rt, w, edition, ends, &mut out);
 }
 
-fn lent_pair<'a>(rt: &impl Print, a: &'a [u16], b: &'a [u16], edition: u32) {
+fn lent_pair(rt: &impl Print, a: &[u16], b: &[u16], edition: u32) {
     let mut work = [7u32; 21];
     let mut other = [7u32; 21];
     which(rt, a, b, edition, &mut work);
@@ -156,36 +154,15 @@ fn one_place(rt: &impl Print, w: &[u16], edition: u32, choice: u32) {
 // The whole word as a part.
 fn part(rt: &impl Print, w: &[u16], edition: u32, units: &mut [u32]) {
     asked(rt, b"part", w, edition);
-    answered(rt, periods::part_16(w, edition, 1, length(w), units));
+    description(rt, periods::part(w, edition, 1, length(w), units));
     list(rt, b" units", units);
     text(rt, b"\n");
-}
-
-fn answered(rt: &impl Print, answer: PartAnswer) {
-    match answer {
-        PartAnswer::Described(d) => described(rt, d),
-        PartAnswer::Refused(r) => {
-            text(rt, b",refused,");
-            show::code(rt, r);
-        }
-    }
-}
-
-fn described(rt: &impl Print, d: Description) {
-    field(rt, d.period);
-    field(rt, d.exponent);
-    field(rt, d.remainder);
-    if d.repetition {
-        text(rt, b",block");
-    } else {
-        text(rt, b",no block");
-    }
 }
 
 fn runs(rt: &impl Print, w: &[u16], table: &mut [u32]) {
     text(rt, b"runs");
     name(rt, w);
-    outcome(rt, run_table::runs_16(w, table));
+    outcome(rt, run_table::runs(w, table));
     list(rt, b" table", table);
     text(rt, b"\n");
 }
@@ -193,7 +170,7 @@ fn runs(rt: &impl Print, w: &[u16], table: &mut [u32]) {
 // The nodes at the last position.
 fn nodes(rt: &impl Print, w: &[u16], edition: u32, table: &mut [u32]) {
     asked(rt, b"nodes", w, edition);
-    outcome(rt, nodes::nodes_16(w, edition, length(w), table));
+    outcome(rt, nodes::nodes(w, edition, length(w), table));
     list(rt, b" runs", table);
     text(rt, b"\n");
 }
@@ -208,10 +185,7 @@ fn best_split(
 ) {
     asked(rt, b"best split", w, edition);
     field(rt, choice);
-    outcome(
-        rt,
-        repetitions::best_split_16(w, edition, choice, ends, work),
-    );
+    outcome(rt, repetitions::best_split(w, edition, choice, ends, work));
     list(rt, b" ends", ends);
     list(rt, b" work", work);
     text(rt, b"\n");
@@ -221,7 +195,7 @@ fn best_squares(rt: &impl Print, w: &[u16], choice: u32, ends: &mut [u32], work:
     text(rt, b"best squares");
     name(rt, w);
     field(rt, choice);
-    outcome(rt, squares::best_squares_16(w, choice, ends, work));
+    outcome(rt, squares::best_squares(w, choice, ends, work));
     list(rt, b" ends", ends);
     list(rt, b" work", work);
     text(rt, b"\n");
@@ -230,18 +204,18 @@ fn best_squares(rt: &impl Print, w: &[u16], choice: u32, ends: &mut [u32], work:
 // The same ends as those of blocks, and of squares.
 fn judged(rt: &impl Print, w: &[u16], edition: u32, ends: &[u32]) {
     asked(rt, b"judge split", w, edition);
-    outcome(rt, repetitions::judge_split_16(w, edition, ends));
+    outcome(rt, repetitions::judge_split(w, edition, ends));
     list(rt, b" ends", ends);
     text(rt, b"\njudge squares");
     name(rt, w);
-    outcome(rt, squares::judge_squares_16(w, ends));
+    outcome(rt, squares::judge_squares(w, ends));
     list(rt, b" ends", ends);
     text(rt, b"\n");
 }
 
 fn path(rt: &impl Print, w: &[u16], edition: u32, ends: &[u32], table: &mut [u32]) {
     asked(rt, b"path", w, edition);
-    outcome(rt, paths::path_of_split_16(w, edition, ends, table));
+    outcome(rt, paths::path_of_split(w, edition, ends, table));
     list(rt, b" ends", ends);
     list(rt, b" runs", table);
     text(rt, b"\n");
@@ -249,7 +223,7 @@ fn path(rt: &impl Print, w: &[u16], edition: u32, ends: &[u32], table: &mut [u32
 
 fn judged_path(rt: &impl Print, w: &[u16], edition: u32, numbers: &[u32]) {
     asked(rt, b"judge path", w, edition);
-    outcome(rt, paths::judge_path_16(w, edition, numbers));
+    outcome(rt, paths::judge_path(w, edition, numbers));
     list(rt, b" numbers", numbers);
     text(rt, b"\n");
 }
@@ -257,7 +231,7 @@ fn judged_path(rt: &impl Print, w: &[u16], edition: u32, numbers: &[u32]) {
 // The answer, and below it the bytes that are lent.
 fn page(rt: &impl Print, w: &[u16], edition: u32, ends: &[u32], out: &mut [u8]) {
     asked(rt, b"page", w, edition);
-    outcome(rt, pages::write_page_16(w, edition, ends, out));
+    outcome(rt, pages::write_page(w, edition, ends, out));
     list(rt, b" ends", ends);
     text(rt, b"\n");
     text(rt, out);
@@ -268,17 +242,17 @@ fn which(rt: &impl Print, a: &[u16], b: &[u16], edition: u32, work: &mut [u32]) 
     text(rt, b"which");
     name(rt, a);
     asked(rt, b" or", b, edition);
-    outcome(rt, comparison::which_first_16(a, b, edition, work));
+    outcome(rt, comparison::which_first(a, b, edition, work));
     list(rt, b" work", work);
     text(rt, b"\n");
 }
 
 // The length of the first block, and its symbols.
-fn block<'a>(rt: &impl Print, a: &'a [u16], b: &'a [u16], edition: u32, work: &mut [u32]) {
+fn block(rt: &impl Print, a: &[u16], b: &[u16], edition: u32, work: &mut [u32]) {
     text(rt, b"block");
     name(rt, a);
     asked(rt, b" or", b, edition);
-    let part = comparison::first_block_16(a, b, edition, work);
+    let part = comparison::first_block(a, b, edition, work);
     field(rt, length(part));
     text(rt, b" symbols:");
     codes(rt, part);
@@ -296,13 +270,6 @@ fn asked(rt: &impl Print, call: &[u8], w: &[u16], edition: u32) {
     field(rt, edition);
 }
 
-// A name, a colon, and the numbers, each after a space.
-fn list(rt: &impl Print, name: &[u8], xs: &[u32]) {
-    text(rt, name);
-    text(rt, b":");
-    show::numbers(rt, 32, xs);
-}
-
 // The symbols; of a long word their count.
 fn name(rt: &impl Print, w: &[u16]) {
     if 10 < w.len() {
@@ -314,16 +281,10 @@ fn name(rt: &impl Print, w: &[u16]) {
     codes(rt, w);
 }
 
+// Each symbol after a space.
 fn codes(rt: &impl Print, w: &[u16]) {
-    let mut i: usize = 0;
-    while i < w.len() {
-        code(rt, w[i]);
-        i += 1;
+    for x in w {
+        text(rt, b" ");
+        show::number(rt, u32::from(*x));
     }
-}
-
-// A symbol after a space.
-fn code(rt: &impl Print, x: u16) {
-    text(rt, b" ");
-    show::number(rt, x as u32);
 }

@@ -5,7 +5,8 @@
 #![tactic(auto)]
 
 use decimals::COMMA;
-use show::text;
+use show::cases::{rows, values, word};
+use show::{field, numbers, outcome, text};
 
 fn main(rt: HostRuntime) {
     let rt = &rt;
@@ -19,63 +20,36 @@ fn main(rt: HostRuntime) {
 // Each word winning, ties, equal words, words of which one or none can be split, and the empty word,
 // with a place more than is needed.
 fn sequences(rt: &impl Print) {
-    row(rt, b"aabaabaa,abaabaababaabaabababa,1,89");
-    row(rt, b"abaabaababaabaabababa,aabaabaa,1,89");
-    row(rt, b"abaabaababaabaabababa,aabaabaacbbcbbcbb,1,89");
-    row(rt, b"aabaabaacbbcbbcbb,abaabaababaabaabababa,1,89");
-    row(rt, b"aabb,aabaabaa,1,37");
-    row(rt, b"aabaabaa,aabb,1,37");
-    row(rt, b"aabb,aabb,1,21");
-    row(rt, b"aaaa,ababa,1,25");
-    row(rt, b"ababa,aaaa,1,25");
-    row(rt, b"aaaaa,aa,1,25");
-    row(rt, b"ab,aa,1,13");
-    row(rt, b"aa,ab,1,13");
-    row(rt, b"baa,aabaabaacbbcbbcbb,1,73");
-    row(rt, b"aabaabaacbbcbbcbb,baa,1,73");
-    row(rt, b"ab,baa,1,17");
-    row(rt, b"baa,ab,1,17");
-    row(rt, b"a,a,1,9");
-    row(rt, b",,1,5");
-    row(rt, b",aa,1,13");
-    row(rt, b"aa,,1,13");
-    row(rt, b",a,1,9");
-    row(rt, b"a,,1,9");
+    rows(
+        b"aabaabaa,abaabaababaabaabababa,1,89|abaabaababaabaabababa,aabaabaa,1,89|\
+        abaabaababaabaabababa,aabaabaacbbcbbcbb,1,89|\
+        aabaabaacbbcbbcbb,abaabaababaabaabababa,1,89|aabb,aabaabaa,1,37|aabaabaa,aabb,1,37|\
+        aabb,aabb,1,21|aaaa,ababa,1,25|ababa,aaaa,1,25|aaaaa,aa,1,25|ab,aa,1,13|aa,ab,1,13|\
+        baa,aabaabaacbbcbbcbb,1,73|aabaabaacbbcbbcbb,baa,1,73|ab,baa,1,17|baa,ab,1,17|\
+        a,a,1,9|,,1,5|,aa,1,13|aa,,1,13|,a,1,9|a,,1,9|",
+        |r| row(rt, r),
+    );
 }
 
 // Edition 2, where a block has three turns.
 fn second_edition(rt: &impl Print) {
-    row(rt, b"aabaabaa,aaaaaa,2,37");
-    row(rt, b"aaaaaa,aabaabaa,2,37");
-    row(rt, b"aaa,aaaaaa,2,29");
-    row(rt, b"aaaaaa,aaa,2,29");
-    row(rt, b"aaabbb,ababab,2,29");
-    row(rt, b"ababab,aaabbb,2,29");
-    row(rt, b"ababa,aabb,2,25");
-    row(rt, b"aabb,ababa,2,25");
-    row(rt, b",,2,5");
-    row(rt, b"aa,,2,13");
-    row(rt, b",aa,2,13");
+    rows(
+        b"aabaabaa,aaaaaa,2,37|aaaaaa,aabaabaa,2,37|aaa,aaaaaa,2,29|aaaaaa,aaa,2,29|\
+        aaabbb,ababab,2,29|ababab,aaabbb,2,29|ababa,aabb,2,25|aabb,ababa,2,25|,,2,5|\
+        aa,,2,13|,aa,2,13|",
+        |r| row(rt, r),
+    );
 }
 
 // 12, then 9, then 2: no edition with no place, a place fewer than the longer word needs, the places
 // of the shorter word, just enough, and neither word with a split.
 fn refusals(rt: &impl Print) {
-    row(rt, b"aa,aabaabaa,0,0");
-    row(rt, b"aabaabaa,aa,3,36");
-    row(rt, b"ab,ab,4294967295,12");
-    row(rt, b"aa,aabaabaa,1,35");
-    row(rt, b"aabaabaa,aa,1,35");
-    row(rt, b"aa,aabaabaa,1,12");
-    row(rt, b"aabaabaa,aa,1,12");
-    row(rt, b"aa,aabaabaa,1,36");
-    row(rt, b"aabaabaa,aa,1,36");
-    row(rt, b"ab,ab,1,11");
-    row(rt, b"ab,ab,1,12");
-    row(rt, b",,1,3");
-    row(rt, b",,1,4");
-    row(rt, b",,1,0");
-    row(rt, b"aa,,1,0");
+    rows(
+        b"aa,aabaabaa,0,0|aabaabaa,aa,3,36|ab,ab,4294967295,12|aa,aabaabaa,1,35|\
+        aabaabaa,aa,1,35|aa,aabaabaa,1,12|aabaabaa,aa,1,12|aa,aabaabaa,1,36|\
+        aabaabaa,aa,1,36|ab,ab,1,11|ab,ab,1,12|,,1,3|,,1,4|,,1,0|aa,,1,0|",
+        |r| row(rt, r),
+    );
 }
 
 // Symbols that are not letters, and one table for words of different lengths.
@@ -120,89 +94,63 @@ fn limits(rt: &impl Print) {
 // Two words, an edition, and how many places are lent; what stands for the second word is counted
 // with the numbers.
 fn row(rt: &impl Print, row: &[u8]) {
-    let zero: usize = 0;
     let mut numbers = [0u32; 3];
-    let count = show::cases::values(row, &mut numbers);
-    let end = show::cases::place(row, zero, COMMA);
+    let count = values(row, &mut numbers);
+    let [_, edition, places] = numbers;
+    let a = word(row);
     if count < 3 {
         return;
     }
-    if end < row.len() {
-        let from = end + 1;
-        let last = show::cases::place(row, from, COMMA);
-        lent(
-            rt,
-            row,
-            &row[zero..end],
-            &row[from..last],
-            numbers[1],
-            numbers[2],
-        );
+    if let Some(rest) = row.get(a.len() + 1..) {
+        lent(rt, row, a, word(rest), edition, places as usize);
     }
 }
 
 // Both calls, each with a table of its own.
-fn lent<'a>(rt: &impl Print, row: &[u8], a: &'a [u8], b: &'a [u8], edition: u32, places: u32) {
-    let zero: usize = 0;
-    let end = places as usize;
-    let mut work = [7u32; 89];
-    if places <= 89 {
-        which(rt, row, a, b, edition, &mut work[zero..end]);
+fn lent(rt: &impl Print, row: &[u8], a: &[u8], b: &[u8], edition: u32, places: usize) {
+    let mut table = [7u32; 89];
+    if let Some(work) = table.get_mut(..places) {
+        which(rt, row, a, b, edition, work);
     }
-    let mut other = [7u32; 89];
-    if places <= 89 {
-        block(rt, row, a, b, edition, &mut other[zero..end]);
+    let mut table = [7u32; 89];
+    if let Some(work) = table.get_mut(..places) {
+        block(rt, row, a, b, edition, work);
     }
 }
 
 fn which(rt: &impl Print, name: &[u8], a: &[u8], b: &[u8], edition: u32, work: &mut [u32]) {
     text(rt, b"which,");
     text(rt, name);
-    show::outcome(rt, comparison::which_first(a, b, edition, work));
-    show::numbers(rt, COMMA, work);
+    outcome(rt, comparison::which_first(a, b, edition, work));
+    numbers(rt, COMMA, work);
     text(rt, b"\n");
 }
 
-fn block<'a>(
-    rt: &impl Print,
-    name: &[u8],
-    a: &'a [u8],
-    b: &'a [u8],
-    edition: u32,
-    work: &mut [u32],
-) {
+fn block(rt: &impl Print, name: &[u8], a: &[u8], b: &[u8], edition: u32, work: &mut [u32]) {
     text(rt, b"block,");
     text(rt, name);
     text(rt, b",");
     text(rt, comparison::first_block(a, b, edition, work));
-    show::numbers(rt, COMMA, work);
+    numbers(rt, COMMA, work);
     text(rt, b"\n");
 }
 
 // The same in short: the length of the first block, and the last ten places that are lent.
-fn brief<'a>(
-    rt: &impl Print,
-    name: &[u8],
-    a: &'a [u8],
-    b: &'a [u8],
-    edition: u32,
-    work: &mut [u32],
-) {
+fn brief(rt: &impl Print, name: &[u8], a: &[u8], b: &[u8], edition: u32, work: &mut [u32]) {
     text(rt, b"which,");
     text(rt, name);
-    show::outcome(rt, comparison::which_first(a, b, edition, work));
+    outcome(rt, comparison::which_first(a, b, edition, work));
     last_places(rt, work);
     text(rt, b"block,");
     text(rt, name);
     let part = comparison::first_block(a, b, edition, work);
-    show::field(rt, (part.len() % 65536) as u32);
+    field(rt, (part.len() % 65536) as u32);
     last_places(rt, work);
 }
 
 fn last_places(rt: &impl Print, work: &[u32]) {
-    let end = work.len();
-    if 10 <= end {
-        show::numbers(rt, COMMA, &work[end - 10..end]);
+    if let Some(last) = work.last_chunk::<10>() {
+        numbers(rt, COMMA, last);
     }
     text(rt, b"\n");
 }

@@ -4,18 +4,8 @@
 #![tactic(auto)]
 
 use decimals::COMMA;
-use show::{field, outcome, text};
-
-// What a table of cases is for, and what the numbers of a row are.
-#[derive(Clone, Copy)]
-enum Call {
-    // none: best squares with both choices, and a place more than is needed
-    Both,
-    // the choice, the places for ends, and those for work
-    Best,
-    // the ends
-    Judge,
-}
+use show::cases::{rows, values, word};
+use show::{field, list_line, numbers, outcome, part, text};
 
 fn main(rt: HostRuntime) {
     let rt = &rt;
@@ -31,11 +21,10 @@ fn main(rt: HostRuntime) {
 // the documents.
 fn words(rt: &impl Print) {
     rows(
-        rt,
-        Call::Both,
         b"|a|aa|ab|aaa|aaaa|aaaaa|aaaaaa|aaaaaaaa|abab|ababa|ababab|abababab|abba|aabb|\
         aabbaabb|aabaab|baabaa|aabaabaa|abaababaabbbaabbbb|abaabaababaabaabababa|\
         aabaabaacbbcbbcbb|bbabaabaabbabaabaacc|",
+        |r| both(rt, r),
     );
 }
 
@@ -43,20 +32,17 @@ fn words(rt: &impl Print) {
 // that it precedes, and the empty word.
 fn lent_places(rt: &impl Print) {
     rows(
-        rt,
-        Call::Best,
         b"aabaabaa,1,2,36|aabaabaa,1,1,36|aabaabaa,2,0,36|aabaabaa,2,2,35|aaaa,1,1,20|\
         aaaa,1,0,20|aaaa,2,2,20|aaaa,2,1,20|aabaabaa,0,2,36|aabaabaa,3,2,35|\
         aabaabaa,4294967295,0,0|ab,3,0,12|aabaabaa,1,0,35|aabaabaa,2,0,0|ab,1,0,11|\
         ab,1,0,12|ab,2,1,13|aaa,1,0,17|aaaab,2,0,25|,1,0,4|,2,1,5|,1,0,3|,2,0,0|,3,0,0|",
+        |r| best(rt, r),
     );
 }
 
 // Splits, and then for each end in turn 3 and 4, and then 5; a block that is no square is 4.
 fn judged(rt: &impl Print) {
     rows(
-        rt,
-        Call::Judge,
         b"aaaa,4|aaaa,2,4|aaaa,1,4|aaaa,3,4|aaaa,2,3,4|aaaa,2,2,4|aaaa,2,0|aaaa,4,4|\
         aaaa,0|aaaa,5|aaaa,2,4294967295|aaaa,2|aaaa|aabaabaa,2,8|aabaabaa,6,8|\
         aabaabaa,8|aabaabaa,2,6,8|aabaabaa,2,2,8|aabaabaa,2,9|aabaabaa,6|\
@@ -64,6 +50,7 @@ fn judged(rt: &impl Print) {
         abaababaabbbaabbbb,10,12,14,16,18|abaababaabbbaabbbb,10,12,18|\
         abaababaabbbaabbbb,10,14,18|abab,4|abab,2,4|abba,4|ababa,5|ababa,4|ababa,4,5|\
         ababab,6||,0|,1|",
+        |r| judge(rt, r),
     );
 }
 
@@ -97,8 +84,6 @@ fn symbols(rt: &impl Print) {
 // Squares joined, of halves of up to five letters; every fourth word has its middle letter changed.
 fn generated(rt: &impl Print) {
     rows(
-        rt,
-        Call::Both,
         b"ababababbbabaaba|aabaabcccbcbbabbab|bbabbaabbababbabbabbab|bbcbbcbbbbaabbababba|\
         aaabbaaabbbababbabba|aaaaaacbcaccbcacbcacbcac|abbbbabbbbbabaaaaaaa|\
         bbbbcccbaccbbabccbbccb|abaaabaaaabbbabbbabb|cacabbbcbbcbbb|ababaababbbbabbbaa|\
@@ -112,6 +97,7 @@ fn generated(rt: &impl Print) {
         aabababbabbabbabba|bcabcaaacabccabc|bbaababaabaaabaa|cccacababbacbaba|\
         babbabbbababbaba|abacabacbbaccacaccac|bbbbabbaabbabaabaa|ccccccbacbaacbabaaba|\
         abaaabaabababbabab|ccbcbccbcbacccaccc|bababbbbbbbbaa|bcbcbbaababbcc|",
+        |r| both(rt, r),
     );
 }
 
@@ -139,87 +125,57 @@ fn long_verdicts(rt: &impl Print, longest: &[u8], over: &[u8]) {
     verdict(rt, b"70001 equal", over, &[4097u32]);
 }
 
-fn rows(rt: &impl Print, call: Call, table: &[u8]) {
-    let mut at: usize = 0;
-    while at < table.len() {
-        let end = show::cases::place(table, at, show::cases::BAR);
-        row(rt, call, &table[at..end]);
-        at = end + 1;
-    }
-}
-
-fn row(rt: &impl Print, call: Call, row: &[u8]) {
-    match call {
-        Call::Both => both(rt, row),
-        Call::Best => best(rt, row),
-        Call::Judge => judge(rt, row),
-    }
-}
-
+// A word with both choices, and a place more than is needed.
 fn both(rt: &impl Print, w: &[u8]) {
     if w.len() <= 24 {
-        let space = (4 * w.len() + 5) as u32;
+        let space = 4 * w.len() + 5;
         chosen(rt, w, 1, space);
         chosen(rt, w, 2, space);
     }
 }
 
-fn chosen(rt: &impl Print, w: &[u8], choice: u32, space: u32) {
-    let zero: usize = 0;
-    let end = space as usize;
+fn chosen(rt: &impl Print, w: &[u8], choice: u32, space: usize) {
     let mut ends = [7u32; 12];
-    let mut work = [7u32; 101];
-    text(rt, b"best,");
-    text(rt, w);
-    field(rt, choice);
-    if space <= 101 {
-        answered(rt, w, choice, &mut ends, &mut work[zero..end]);
+    let mut table = [7u32; 101];
+    if let Some(work) = table.get_mut(..space) {
+        named_choice(rt, w, w, choice, &mut ends, work);
     }
 }
 
+// A word, the choice, the places for ends, and those for work.
 fn best(rt: &impl Print, row: &[u8]) {
-    let zero: usize = 0;
     let mut numbers = [0u32; 3];
-    let count = show::cases::values(row, &mut numbers);
-    let end = show::cases::place(row, zero, COMMA);
+    let count = values(row, &mut numbers);
+    let [choice, places, space] = numbers;
     text(rt, b"best,");
     text(rt, row);
     if count == 3 {
-        lent(rt, &row[zero..end], numbers[0], numbers[1], numbers[2]);
+        lent(rt, word(row), choice, places as usize, space as usize);
     }
 }
 
-fn lent(rt: &impl Print, w: &[u8], choice: u32, places: u32, space: u32) {
-    let zero: usize = 0;
-    let last = places as usize;
-    let end = space as usize;
+fn lent(rt: &impl Print, w: &[u8], choice: u32, places: usize, space: usize) {
     let mut ends = [7u32; 2];
     let mut work = [7u32; 36];
-    if places <= 2 {
-        if space <= 36 {
-            answered(rt, w, choice, &mut ends[zero..last], &mut work[zero..end]);
-        }
+    if let (Some(ends), Some(work)) = (ends.get_mut(..places), work.get_mut(..space)) {
+        answered(rt, w, choice, ends, work);
     }
 }
 
 fn answered(rt: &impl Print, w: &[u8], choice: u32, ends: &mut [u32], work: &mut [u32]) {
     outcome(rt, squares::best_squares(w, choice, ends, work));
-    list(rt, b" ends", ends);
-    list(rt, b" work", work);
+    list_line(rt, b" ends", ends);
+    list_line(rt, b" work", work);
 }
 
+// A word, and the ends.
 fn judge(rt: &impl Print, row: &[u8]) {
-    let zero: usize = 0;
     let mut numbers = [0u32; 5];
-    let count = show::cases::values(row, &mut numbers);
-    let end = show::cases::place(row, zero, COMMA);
+    let count = values(row, &mut numbers);
     text(rt, b"judge,");
     text(rt, row);
-    if count <= 5 {
-        outcome(
-            rt,
-            squares::judge_squares(&row[zero..end], &numbers[zero..count]),
-        );
+    if let Some(ends) = numbers.get(..count) {
+        outcome(rt, squares::judge_squares(word(row), ends));
     }
     text(rt, b"\n");
 }
@@ -260,24 +216,7 @@ fn brief(rt: &impl Print, name: &[u8], w: &[u8], choice: u32, ends: &mut [u32], 
 fn verdict(rt: &impl Print, name: &[u8], w: &[u8], ends: &[u32]) {
     text(rt, b"judge,");
     text(rt, name);
-    show::numbers(rt, COMMA, ends);
+    numbers(rt, COMMA, ends);
     outcome(rt, squares::judge_squares(w, ends));
     text(rt, b"\n");
-}
-
-// A name, a colon, the numbers, each after a space, and the line's end.
-fn list(rt: &impl Print, name: &[u8], xs: &[u32]) {
-    text(rt, name);
-    text(rt, b":");
-    show::numbers(rt, 32, xs);
-    text(rt, b"\n");
-}
-
-// The places from one up to another, where the list has them.
-fn part(rt: &impl Print, name: &[u8], xs: &[u32], from: usize, to: usize) {
-    if to <= xs.len() {
-        if from <= to {
-            list(rt, name, &xs[from..to]);
-        }
-    }
 }

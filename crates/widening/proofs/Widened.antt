@@ -5,7 +5,7 @@ use Prim.Native.Nat.{ℕ, suc, ◌+◌, ◌-◌, ◌<◌}
 use native.Mathlib.Omega.{arith}
 use native.Mathlib.Numerals.{add-one}
 use lib.ListN.{length, get_or, set, take, drop}
-use lib.Seq.{take-suc, drop-cons, set_at, length-take-le, append_snoc, take_all, take-append_seam}
+use lib.Seq.{take-suc, drop-cons, set_at, length-take-le, append_snoc, take-append_seam}
 
 -- one more symbol
 pub widen_more : (s d x : List ℕ) (i : ℕ) → x ≡ take i s ++ drop i d → i < length s → i < length d → set x i (get_or s i 0) ≡ take (i + 1) s ++ drop (i + 1) d
@@ -15,9 +15,6 @@ widen_more s d x i e h k =
     ∙ set_at (take i s) (get_or d i 0) (drop (suc i) d) (get_or s i 0) i (length-take-le i s (omega arith))
     ∙ sym (append_snoc (take i s) (get_or s i 0) (drop (suc i) d))
     ∙ rw (take-suc s i 0 h) refl)
-
-pub widen_done : (s d x : List ℕ) (i : ℕ) → x ≡ take i s ++ drop i d → i ≡ length s → x ≡ s ++ drop (length s) d
-widen_done s d x i e f = e ∙ rw f (ap (λ (y : List ℕ). y ++ drop (length s) d) (take_all (length s) s (omega arith)))
 
 -- the part that is handed on is the bytes
 pub widened : (s d x : List ℕ) → x ≡ s ++ drop (length s) d → take (length s - 0) x ≡ s

@@ -6,10 +6,7 @@ pub fn widen(bytes: &[u8], wide: &mut [u16])
     requires { length bytes.now ≤ length wide.old }
     ensures { wide.new ≡ bytes.now ++ drop (length bytes.now) wide.old }
 {
-    let n = bytes.len();
-    let mut i: usize = 0;
-    while i < n {
-        wide[i] = bytes[i] as u16;
-        i += 1;
+    for (i, byte) in bytes.iter().enumerate() {
+        wide[i] = u16::from(*byte);
     }
 }

@@ -2,7 +2,7 @@
 -- there is room or not. And how long the pieces can be. By induction on the lists. Assumes nothing.
 use mathlib.Core.Path.{◌≡◌, refl, sym, ap, ap₂, ◌∙◌, subst}
 use mathlib.Core.List.{List, [], ◌∷◌, ◌++◌}
-use Prim.Native.Nat.{ℕ, suc, ◌+◌, ◌-◌, ◌*◌, ◌≤◌, ◌<◌}
+use Prim.Native.Nat.{ℕ, suc, ◌+◌, ◌*◌, ◌≤◌, ◌<◌}
 use native.Mathlib.Omega.{arith}
 use native.Mathlib.Numerals.{add-one}
 use native.Mathlib.Nat.{add-zero}
@@ -70,23 +70,12 @@ stored_more {t} {a} {xs} {u} {b} {ys} S R = left_last (left_less ys (left_all t 
 
 -- ---- bytes
 
--- one byte of a text
-pub byte_left : (u s : List ℕ) (at i : ℕ) → i < length s → sets u (at + i) (drop i s) ≡ sets (set u (at + i) (get_or s i 0)) (at + (i + 1)) (drop (i + 1) s)
-byte_left u s at i h =
-    let e : suc (at + i) ≡ at + (i + 1) = omega arith in
-    ap (sets u (at + i)) (drop-cons s i 0 h)
-    ∙ ap₂ (λ (p q : ℕ). sets (set u (at + i) (get_or s i 0)) p (drop q s)) e (sym (add-one i))
-
-pub bytes_done : (u s : List ℕ) (at i : ℕ) → length s ≤ i → sets u (at + i) (drop i s) ≡ u
-bytes_done u s at i h = rw (drop_of_length-le s {i = i} h) refl
-
 -- ---- numbers
 
 -- the digits that were written at the front of a table
-pub digits-front : (t d : List ℕ) (k x : ℕ) → k ≤ length t → d ≡ sets t 0 (digits k x) → take (k - 0) d ≡ digits k x
+pub digits-front : (t d : List ℕ) (k x : ℕ) → k ≤ length t → d ≡ sets t 0 (digits k x) → take k d ≡ digits k x
 digits-front t d k x h f =
-    let e : k - 0 ≡ k = omega arith in
-    rw (e, f, sets-front t (digits k x) (omega (arith, digits-length k x))) (take_at (digits k x) (drop (length (digits k x)) t) k (digits-length k x))
+    rw (f, sets-front t (digits k x) (omega (arith, digits-length k x))) (take_at (digits k x) (drop (length (digits k x)) t) k (digits-length k x))
 
 pub line_is : (name xs : List ℕ) → line name xs ≡ name ++ (fields_of xs ++ (line_end ∷ []))
 unfolding line

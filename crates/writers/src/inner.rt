@@ -1,5 +1,6 @@
 // For the library's own crates: the caller shows what each function requires. Every writer stores from
 // place at on, as far as there are bytes, and gives the place after what it wrote.
+// Kept: a cursor that holds the lent bytes needs a clause on them in every contract, as in `halves`.
 ghost use Rattle.std.specs.Prelude.{◌≡◌, ◌∷◌, ◌≤◌, ◌<◌, ◌+◌, ◌^◌, length, set};
 ghost use Rattle.std.proofs.lemmas.List.Edits.{sets};
 ghost use Rattle.decimals.specs.Decimal.{comma, plain};
@@ -13,10 +14,10 @@ fn put_byte(out: &mut [u8], at: usize, b: u8) -> usize
     ensures value { result ≡ at + 1 }
     ensures out_after { out.new ≡ set out.old at b }
 {
-    if out.len() <= at {
-        return at + 1;
+    // Kept: tried with `get_mut`; after it the proof knows no element.
+    if at < out.len() {
+        out[at] = b;
     }
-    out[at] = b;
     at + 1
 }
 
@@ -26,12 +27,10 @@ pub fn put_text(out: &mut [u8], at: usize, s: &[u8]) -> usize
     ensures value { result ≡ at + length s.now }
     ensures out_after { out.new ≡ sets out.old at s.now }
 {
-    let mut i: usize = 0;
-    while i < s.len() {
-        put_byte(out, at + i, s[i]);
-        i += 1;
+    for (i, b) in s.iter().enumerate() {
+        put_byte(out, at + i, *b);
     }
-    at + i
+    at + s.len()
 }
 
 // Stores a comma and a number with no leading zeros.
@@ -41,11 +40,10 @@ fn put_field(out: &mut [u8], at: usize, x: u32) -> usize
     ensures out_after { out.new ≡ sets out.old at (comma ∷ plain x) }
 {
     let mut digits = [0u8; MOST_DIGITS];
-    let zero: usize = 0;
     let k = decimals::inner::count(x);
-    decimals::inner::write(&mut digits, zero, k, x);
+    decimals::inner::write(&mut digits, 0, k, x);
     let next = put_byte(out, at, COMMA);
-    put_text(out, next, &digits[zero..k])
+    put_text(out, next, &digits[..k])
 }
 
 // Stores a line: a name, and numbers with a comma before each.
@@ -55,10 +53,8 @@ pub fn put_line(out: &mut [u8], at: usize, name: &[u8], xs: &[u32]) -> usize
     ensures out_after { out.new ≡ sets out.old at (line name.now xs.now) }
 {
     let mut next = put_text(out, at, name);
-    let mut i: usize = 0;
-    while i < xs.len() {
-        next = put_field(out, next, xs[i]);
-        i += 1;
+    for x in xs {
+        next = put_field(out, next, *x);
     }
     put_byte(out, next, LINE_END)
 }

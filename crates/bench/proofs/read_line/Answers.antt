@@ -26,23 +26,23 @@ pub returns-then-place-have : goal.returns-then-place-have
 returns-then-place-have g c =
     let l = c.loop-have in
     let n = length c.args.buf.now in
-    let b = after l.buf c.read.new.buf l.have n in
-    let long : length b ≡ n = part_read l.buf c.read.new.buf l.have n l.invariant.0 (omega (arith, l.invariant.1)) c.read.auto.buf ∙ l.invariant.1 in
-    let k = kept l.buf c.read.new.buf l.have n (omega (arith, l.invariant.1)) l.invariant.2 in
-    let m : l.have + c.in-Ok.more ≤ n = omega (arith, c.in-Ok.ensures.bound, c.read.auto.buf) in (
+    let b = after l.buf c.read.new.buf l.have (length l.buf) in
+    let long : length b ≡ n = part_read l.buf c.read.new.buf l.have (length l.buf) (omega (arith, l.invariant.1)) (omega arith) c.read.auto.buf ∙ l.invariant.1 in
+    let k = kept l.buf c.read.new.buf l.have (length l.buf) (omega (arith, l.invariant.1)) l.invariant.2 in
+    let m : l.have + c.in_ok-more.more ≤ n = omega (arith, c.in_ok-more.ensures.bound, c.read.auto.buf) in (
       omega (arith, m, long),
-      line_ended b l.have (l.have + c.in-Ok.more) c.line_length.result (omega arith) (omega (arith, m, long)) k c.line_length.ensures.value c.if-place-have.true,
+      line_ended b l.have (l.have + c.in_ok-more.more) c.line_length.result (omega arith) (omega (arith, m, long)) k c.line_length.ensures.value c.if-place-have.true,
     )
 
 pub loop-have-preserved : goal.loop-have-preserved
 loop-have-preserved g c =
     let l = c.loop-have in
     let n = length c.args.buf.now in
-    let b = after l.buf c.read.new.buf l.have n in
-    let long : length b ≡ n = part_read l.buf c.read.new.buf l.have n l.invariant.0 (omega (arith, l.invariant.1)) c.read.auto.buf ∙ l.invariant.1 in
-    let k = kept l.buf c.read.new.buf l.have n (omega (arith, l.invariant.1)) l.invariant.2 in
-    let m : l.have + c.in-Ok.more ≤ n = omega (arith, c.in-Ok.ensures.bound, c.read.auto.buf) in (
+    let b = after l.buf c.read.new.buf l.have (length l.buf) in
+    let long : length b ≡ n = part_read l.buf c.read.new.buf l.have (length l.buf) (omega (arith, l.invariant.1)) (omega arith) c.read.auto.buf ∙ l.invariant.1 in
+    let k = kept l.buf c.read.new.buf l.have (length l.buf) (omega (arith, l.invariant.1)) l.invariant.2 in
+    let m : l.have + c.in_ok-more.more ≤ n = omega (arith, c.in_ok-more.ensures.bound, c.read.auto.buf) in (
       m,
       long,
-      line-goes_on b l.have (l.have + c.in-Ok.more) c.line_length.result (omega arith) (omega (arith, m, long)) k c.line_length.ensures.value c.if-place-have.false,
+      line-goes_on b l.have (l.have + c.in_ok-more.more) c.line_length.result (omega arith) (omega (arith, m, long)) k c.line_length.ensures.value c.if-place-have.false,
     )

@@ -16,12 +16,12 @@ returns-then-xs-gt-MOST g c = simp (lt-ltb _ _ c.if-xs-gt-MOST.true)
 pub overflow_add-count : goal.overflow_add-count
 overflow_add-count g c = omega (arith, fields_long c.args.before c.args.xs.now)
 
-pub loop-i-preserved : goal.loop-i-preserved
-loop-i-preserved g c = (omega arith, omega (arith, numbers_more c.args.before c.args.xs.now c.loop-i.i (omega arith), c.after-count.ensures.0))
+pub loop-x-preserved : goal.loop-x-preserved
+loop-x-preserved g c = omega (arith, numbers_more c.args.before c.args.xs.now c.loop-x.x-index (omega arith), c.after-count.ensures.0)
 
 pub returns : goal.returns
 unfolding numbers_shown
 returns g c =
-    let e : c.loop-i.count ≡ length (fields_after c.args.before c.args.xs.now) =
-    omega (arith, ap length (fields_done c.args.before c.args.xs.now c.loop-i.i (omega arith))) in
+    let e : c.loop-x.count ≡ length (fields_after c.args.before c.args.xs.now) =
+    omega (arith, ap length (fields_done c.args.before c.args.xs.now c.loop-x.x-index (omega arith))) in
     simp (le-ltb most (length c.args.xs.now) (omega arith)) e

@@ -6,6 +6,6 @@ use Rattle.cegridom.proofs.codes.cegridom_first_block_16.Goals as goal
 
 pub returns-clause-meaning : goal.returns-clause-meaning
 returns-clause-meaning c =
-    let k = c.compare_16-answer.ensures in
+    let k = c.compare-answer.ensures in
     let h = c.hand_over_choice.ensures in
     rw (h.which_after ∙ ap word_in k.answer, h.symbols_after ∙ ap length_in k.answer, k.worked) (first_means c.args.a.now c.args.b.now c.args.edition c.args.work.now)

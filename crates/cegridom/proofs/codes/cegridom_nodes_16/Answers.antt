@@ -3,4 +3,4 @@ use Rattle.std.proofs.Common.{sym}
 use Rattle.cegridom.proofs.codes.cegridom_nodes_16.Goals as goal
 
 pub returns-clause-meaning : goal.returns-clause-meaning
-returns-clause-meaning c = rw (sym c.nodes_16-answer.ensures.answer) c.nodes_16-answer.ensures.meaning
+returns-clause-meaning c = rw (sym c.nodes-answer.ensures.answer) c.nodes-answer.ensures.meaning

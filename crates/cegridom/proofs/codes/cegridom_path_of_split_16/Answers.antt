@@ -3,4 +3,4 @@ use Rattle.std.proofs.Common.{sym}
 use Rattle.cegridom.proofs.codes.cegridom_path_of_split_16.Goals as goal
 
 pub returns-clause-meaning : goal.returns-clause-meaning
-returns-clause-meaning c = rw (sym c.path_of_split_16-answer.ensures.answer) c.path_of_split_16-answer.ensures.meaning
+returns-clause-meaning c = rw (sym c.path_of_split-answer.ensures.answer) c.path_of_split-answer.ensures.meaning

@@ -3,4 +3,4 @@ use Rattle.std.proofs.Common.{sym}
 use Rattle.cegridom.proofs.codes.cegridom_write_page_16.Goals as goal
 
 pub returns-clause-meaning : goal.returns-clause-meaning
-returns-clause-meaning c = rw (sym c.write_page_16-answer.ensures.answer) c.write_page_16-answer.ensures.meaning
+returns-clause-meaning c = rw (sym c.write_page-answer.ensures.answer) c.write_page-answer.ensures.meaning

@@ -1,39 +1,28 @@
 -- `decimals::inner::read` meets its contract: what is read and the bytes that are left spell the number, if they are digits. Assumes nothing.
-use mathlib.Core.Path.{sym, ◌∙◌}
-use Prim.Native.Nat.{ℕ, ◌+◌, ◌-◌}
+use mathlib.Core.Path.{sym, ap, ◌∙◌}
+use Prim.Native.Nat.{◌<◌, ◌≤◌}
 use native.Mathlib.Omega.{arith}
-use lib.ListN.{get_or}
-use Rattle.decimals.specs.Decimal.{zero_byte}
-use Rattle.decimals.proofs.Loops.{read_first, read_low, read_high, read_digit, eight_digits, one_digit_more}
+use Rattle.decimals.specs.Read.{number_in}
+use Rattle.decimals.proofs.Loops.{read_first, bytes_are, bytes-length, eight_digits, digit_small}
 use Rattle.decimals.proofs.inner.read.Goals as goal
+use Rattle.decimals.proofs.inner.read.Goals.{Else-not-is_ascii_digit, After-from}
 
-pub loop-i-init : goal.loop-i-init
-loop-i-init c = (omega arith, omega arith, read_first _)
+pub loop-b-init : goal.loop-b-init
+loop-b-init c = let g = c.args in (omega arith, ap number_in (bytes_are g.s.now g.at g.width) ∙ read_first _)
 
-pub returns-then-b-lt-ZERO : goal.returns-then-b-lt-ZERO
-returns-then-b-lt-ZERO c =
-    let l = c.loop-i in
+-- so far there are at most eight digits
+few : (c : Else-not-is_ascii_digit) → c.loop-b.x < 100000000
+few c =
     let g = c.args in
-    sym (l.invariant.2 ∙ read_low g.s.now g.at g.width l.i l.x (omega arith) (omega arith) (omega arith))
-
-pub returns-then-b : goal.returns-then-b
-returns-then-b c =
-    let l = c.loop-i in
-    let g = c.args in
-    sym (l.invariant.2 ∙ read_high g.s.now g.at g.width l.i l.x (omega arith) (omega arith) (omega arith))
+    let l = c.loop-b in
+    eight_digits l.x l.b-index (omega (arith, bytes-length g.s.now g.at g.width c.requires.0)) l.invariant.0
 
 pub overflow_mul-x : goal.overflow_mul-x
-overflow_mul-x c = omega (arith, eight_digits c.loop-i.x c.loop-i.i (omega arith) c.loop-i.invariant.1)
+overflow_mul-x c = omega (arith, few c)
+
+-- the number of the digit in hand
+digit : (c : After-from) → c.from.result ≤ 9
+digit c = rw c.from.ensures (digit_small _ (sym c.is_ascii_digit.ensures.value ∙ c.if-not-is_ascii_digit.false))
 
 pub overflow_add-x : goal.overflow_add-x
-overflow_add-x c = omega (arith, eight_digits c.loop-i.x c.loop-i.i (omega arith) c.loop-i.invariant.1)
-
-pub loop-i-preserved : goal.loop-i-preserved
-loop-i-preserved c =
-    let l = c.loop-i in
-    let g = c.args in
-    let b : ℕ = get_or g.s.now (g.at + l.i) 0 in (
-      omega arith,
-      one_digit_more l.x l.i (b - zero_byte) (omega arith) l.invariant.1,
-      l.invariant.2 ∙ read_digit g.s.now g.at g.width l.i l.x (omega arith) (omega arith) (omega arith) (omega arith),
-    )
+overflow_add-x c = let at = goal.at.overflow_add-x c in omega (arith, few at.Else-not-is_ascii_digit, digit at.After-from)

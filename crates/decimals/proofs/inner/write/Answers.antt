@@ -12,7 +12,7 @@ use Rattle.decimals.proofs.inner.write.Goals as goal
 pub loop-i-init : goal.loop-i-init
 loop-i-init c =
     let g = c.args in
-    (omega arith, refl, none_made g.width g.x c.requires.2, ap (sets g.out.now g.at) (sym (no_digits (made g.width 0 g.x))))
+    (refl, none_made g.width g.x c.requires.2, ap (sets g.out.now g.at) (sym (no_digits (made g.width 0 g.x))))
 
 pub loop-i-preserved : goal.loop-i-preserved
 loop-i-preserved c =
@@ -20,10 +20,9 @@ loop-i-preserved c =
     let l = c.loop-i in
     let g = c.args in
     let y : ℕ = made g.width l.i g.x in (
-      omega arith,
-      d.auto.out ∙ l.invariant.1,
+      d.auto.out ∙ l.invariant.0,
       d.ensures.reads,
-      stored_next g.out.now l.out d.new.out g.at (g.at + l.i) _ (digits l.i y) _ l.invariant.3 (ap (λ (k : ℕ). g.at + k) (sym (digits-length l.i y))) d.ensures.stored
+      stored_next g.out.now l.out d.new.out g.at (g.at + l.i) _ (digits l.i y) _ l.invariant.2 (ap (λ (k : ℕ). g.at + k) (sym (digits-length l.i y))) d.ensures.stored
           (digits_more g.width l.i g.x (omega arith)),
     )
 
@@ -32,4 +31,4 @@ returns c =
     let l = c.loop-i in
     let g = c.args in
     let e : l.i ≡ g.width = omega arith in
-    l.invariant.3 ∙ ap (λ (i : ℕ). sets g.out.now g.at (digits i (made g.width i g.x))) e ∙ ap (λ (y : ℕ). sets g.out.now g.at (digits g.width y)) (made_all g.width g.x)
+    l.invariant.2 ∙ ap (λ (i : ℕ). sets g.out.now g.at (digits i (made g.width i g.x))) e ∙ ap (λ (y : ℕ). sets g.out.now g.at (digits g.width y)) (made_all g.width g.x)

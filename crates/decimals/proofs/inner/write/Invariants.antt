@@ -1,7 +1,6 @@
 -- `decimals::inner::write` meets its contract: before each turn the first i digits stand, and read as the number made so far. Assumes nothing.
 use mathlib.Core.Path.{◌≡◌}
 use mathlib.Core.List.{[], ◌∷◌}
-use Prim.Native.Nat.{◌-◌, ◌≤◌}
 use lib.ListN.{length}
 use lib.Seq.{sets}
 use Rattle.decimals.specs.Decimal.{digits, field, made}
@@ -9,7 +8,4 @@ use Rattle.decimals.specs.Read.{number_in}
 use Rattle.decimals.proofs.inner.write.Given as goal
 
 abbrev pub invariant-loop-i : goal.invariant-loop-i
-invariant-loop-i l = (l.i ≤ l.width) × (length l.out ≡ length l.initial.out) × (number_in (field l.out l.at l.i) ≡ made l.width l.i l.x ∷ []) × (l.out ≡ sets l.initial.out l.at (digits l.i (made l.width l.i l.x)))
-
-abbrev pub decreases-loop-i : goal.decreases-loop-i
-decreases-loop-i l = l.width - l.i
+invariant-loop-i l = (length l.out ≡ length l.initial.out) × (number_in (field l.out l.at l.i) ≡ made l.width l.i l.x ∷ []) × (l.out ≡ sets l.initial.out l.at (digits l.i (made l.width l.i l.x)))

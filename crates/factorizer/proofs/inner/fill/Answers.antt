@@ -5,8 +5,10 @@ use Prim.Native.Nat.{ℕ, ◌+◌, ◌*◌, ◌≤◌}
 use native.Mathlib.Omega.{arith}
 use lib.ListN.{length}
 use Rattle.periods.specs.Period.{repetition?, held_period}
-use Rattle.periods.specs.Width.{word_of}
-use Rattle.factors.specs.Factorization.{choice_of}
+use Rattle.periods.specs.Edition.{turns_in}
+use Rattle.periods.specs.Width.{symbols}
+use Rattle.periods.proofs.Editions.{turns_in_range}
+use Rattle.factors.specs.Choice.{choice_in}
 use Rattle.factors.specs.Table.{rows, started}
 use Rattle.factors.proofs.Lent.{lent}
 use Rattle.factorizer.specs.Piece.{piece?}
@@ -28,29 +30,30 @@ rest_after n t x y a b = (b.0 ∙ a.0, b.1 ∙ a.1)
 pub loop-j-init : goal.loop-j-init
 loop-j-init c =
     let g = c.args in
-    let w = word_of g.wide g.bytes.now g.codes.now in (
-      omega arith,
-      subst (Windowed (choice_of g.choice) (piece? (repetition? held_period g.turns) w) w (window_of g.turns) 0 0 0)
-          (sym (sized_begun w c.length-n.result c.length-n.ensures g.work.now _ _ c.start.ensures c.clear.ensures))
-          (windowed_starts (choice_of g.choice) (piece? (repetition? held_period g.turns) w) w g.work.now (window_of g.turns) (omega arith)),
+    let w = symbols g.w in
+    let k = turns_in g.edition in (
+      subst (Windowed (choice_in g.choice) (piece? (repetition? held_period k) w) w (window_of k) 0 0 0)
+          (sym (sized_begun w c.len-n.result c.len-n.ensures g.work.now _ _ c.start.ensures (c.fill.ensures.after (λ y h. h))))
+          (windowed_starts (choice_in g.choice) (piece? (repetition? held_period k) w) w g.work.now (window_of k) (omega arith)),
       (refl, refl),
     )
 
 pub loop-j-preserved : goal.loop-j-preserved
 loop-j-preserved c =
     let g = c.args in
-    let w = word_of g.wide g.bytes.now g.codes.now in
+    let w = symbols g.w in
     let l = c.loop-j in
     let v = c.visit-unit in
-    let k = begun_rest w c.length-n.result c.length-n.ensures g.work.now _ _ (omega arith) c.start.ensures c.clear.ensures in
-    let p = lengthens (choice_of g.choice) g.turns c.requires.1 w l.j v.result _ (omega (arith, v.ensures.rest_kept.0, l.invariant.2.0, k.0)) _ v.ensures.windowed_2 c.lengthen.ensures in
-    (omega arith, p.0, (p.1.0 ∙ v.ensures.rest_kept.0 ∙ l.invariant.2.0, p.1.1 ∙ v.ensures.rest_kept.1 ∙ l.invariant.2.1))
+    let k = begun_rest w c.len-n.result c.len-n.ensures g.work.now _ _ (omega arith) c.start.ensures (c.fill.ensures.after (λ y h. h)) in
+    let p = lengthens (choice_in g.choice) (turns_in g.edition) (turns_in_range g.edition) w l.j v.result _ (omega (arith, v.ensures.rest_kept.0, l.invariant.1.0, k.0)) _ v.ensures.windowed_next
+    (rw c.turns-window.ensures at c.lengthen.ensures) in
+    (p.0, (p.1.0 ∙ v.ensures.rest_kept.0 ∙ l.invariant.1.0, p.1.1 ∙ v.ensures.rest_kept.1 ∙ l.invariant.1.1))
 
 pub returns : goal.returns
 returns c =
     let g = c.args in
-    let w = word_of g.wide g.bytes.now g.codes.now in
+    let w = symbols g.w in
     let l = c.loop-j in
-    let k = rest_after (length w) g.work.now _ l.work (begun_rest w c.length-n.result c.length-n.ensures g.work.now _ _ (omega arith) c.start.ensures c.clear.ensures) l.invariant.2 in
-    sized_filled w c.length-n.result c.length-n.ensures (choice_of g.choice) (piece? (repetition? held_period g.turns) w) g.work.now l.work _ (omega arith) k
-    (λ m h. l.invariant.1.upto m h (omega (arith, c.length-n.ensures))) c.clear-2.ensures
+    let k = rest_after (length w) g.work.now _ l.work (begun_rest w c.len-n.result c.len-n.ensures g.work.now _ _ (omega arith) c.start.ensures (c.fill.ensures.after (λ y h. h))) l.invariant.1 in
+    sized_filled w c.len-n.result c.len-n.ensures (choice_in g.choice) (piece? (repetition? held_period (turns_in g.edition)) w) g.work.now l.work _ (omega arith) k
+    (λ m h. l.invariant.0.upto m h (omega (arith, c.len-n.ensures))) (c.fill-2.ensures.after (λ y h. h))

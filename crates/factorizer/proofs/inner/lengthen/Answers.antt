@@ -1,13 +1,14 @@
 -- `factorizer::inner::lengthen` meets its contract: each way out is what its tests lead to. Assumes nothing.
 use mathlib.Core.Path.{◌≡◌, sym, ◌∙◌}
-use mathlib.Core.Bool.{true, false}
+use mathlib.Core.Bool.{true}
 use mathlib.Core.List.{List}
 use Prim.Native.Nat.{ℕ, ◌+◌, ◌<◌}
 use native.Mathlib.Omega.{arith}
-use borrow.Author.Tests.{le-leb, lt-leb}
+use Rattle.std.proofs.lemmas.Bool.Decides.{nat_tests}
+use borrow.Author.Tests.{lt-leb}
 use lib.ListN.{length, get_or, set}
 use lib.Seq.{get_or-set_other}
-use Rattle.periods.specs.Width.{word_of}
+use Rattle.periods.specs.Width.{symbols}
 use Rattle.factorizer.specs.Window.{goes_on, lengthened}
 use Rattle.factorizer.proofs.inner.lengthen.Goals as goal
 
@@ -20,20 +21,10 @@ passed_on w n m u t is inside on =
 
 pub returns-then-n-m : goal.returns-then-n-m
 unfolding lengthened
-returns-then-n-m c =
-    let g = c.args in
-    simp (le-leb (length (word_of g.wide g.bytes.now g.codes.now)) g.m (omega (arith, c.length-n.ensures)))
-
-pub returns-then-not-same : goal.returns-then-not-same
-unfolding lengthened
-returns-then-not-same c =
-    let g = c.args in
-    let w = word_of g.wide g.bytes.now g.codes.now in
-    let e : goes_on w g.m g.period ≡ false = sym c.same.ensures ∙ c.if-not-same.true in
-    simp (lt-leb (length w) g.m (omega (arith, c.length-n.ensures)), e)
+returns-then-n-m c = grind (arith, nat_tests)
 
 pub returns : goal.returns
 returns c =
     let g = c.args in
-    let w = word_of g.wide g.bytes.now g.codes.now in
-    passed_on w c.length-n.result g.m g.period g.work.now c.length-n.ensures (omega (arith, c.length-n.ensures)) (sym c.same.ensures ∙ c.if-not-same.false)
+    let w = symbols g.w in
+    passed_on w c.len-n.result g.m g.period g.work.now c.len-n.ensures (omega (arith, c.len-n.ensures)) (sym c.same.ensures ∙ c.if-not-same.false)

@@ -1,26 +1,14 @@
--- start sets row 0: before the turn for place i the table is the one that is started up to i - 1. Assumes nothing.
-use mathlib.Core.Path.{◌≡◌, refl, ◌∙◌}
-use Prim.Native.Nat.{◌-◌}
-use native.Mathlib.Omega.{arith}
-use lib.ListN.{set, length-set}
+-- start sets row 0: the first place, and then the next n, which it fills. Assumes nothing.
+use Rattle.std.proofs.Common.{◌≡◌, ◌+◌, ◌-◌, ℕ, ◌∙◌, ap, arith, length, length-take, length-drop, length-set, take, drop, set, replicate}
 use Rattle.factors.specs.Table.{none}
-use Rattle.factors.proofs.TableLaws.{started_none, started_more, started_over}
+use Rattle.factors.proofs.TableLaws.{started_put}
 use Rattle.factors.proofs.inner.start.Goals as goal
-
-pub loop-i-init : goal.loop-i-init
-loop-i-init c = (omega arith, omega arith, refl, started_none c.args.work.now (omega arith))
-
-pub loop-i-preserved : goal.loop-i-preserved
-loop-i-preserved c =
-    let w = c.args.work.now in
-    let l = c.loop-i in (
-      omega arith,
-      omega arith,
-      length-set l.work l.i none ∙ l.invariant.2,
-      rw l.invariant.3 (started_more l.i (set w 0 0) (omega arith) (omega (arith, length-set w 0 0))),
-    )
 
 pub returns : goal.returns
 returns c =
-    let e : c.loop-i.i - 1 ≡ c.args.n = omega arith in
-    c.loop-i.invariant.3 ∙ rw e (started_over c.args.n c.args.work.now)
+    let n = c.args.n in
+    let s = set c.args.work.now 0 0 in
+    let e : n + 1 - 1 ≡ n = omega arith in
+    let k : length (take (n + 1 - 1) (drop 1 s)) ≡ n =
+    omega (arith, length-take (n + 1 - 1) (drop 1 s), length-drop 1 s, length-set c.args.work.now 0 0) in
+    rw e (started_put n c.args.work.now c.fill.new.self (omega arith) (c.fill.ensures.after (λ y h. h) ∙ ap (λ (m : ℕ). replicate m none) k))

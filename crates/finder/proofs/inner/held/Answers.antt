@@ -18,9 +18,9 @@ next_take t runs r i is lt e =
     ∙ ap (λ (s : Record). records i t ++ (s ∷ [])) is ∙ sym (records_more t i)
 
 pub loop-i-init : goal.loop-i-init
-loop-i-init c = (omega arith, refl, sym (records_none c.args.table.now))
+loop-i-init c = (refl, sym (records_none c.args.table.now))
 
 pub loop-i-preserved : goal.loop-i-preserved
 loop-i-preserved c =
     let l = c.loop-i in
-    (omega arith, length-set l.held l.i _ ∙ l.invariant.1, next_take c.args.table.now l.held _ l.i c.row.ensures (omega (arith, l.invariant.1)) l.invariant.2)
+    (length-set l.held l.i _ ∙ l.invariant.0, next_take c.args.table.now l.held _ l.i c.row.ensures (omega (arith, l.invariant.0)) l.invariant.1)

@@ -6,36 +6,12 @@ use Rattle.runs.proofs.RootClaims.{two_turns}
 use Rattle.halves.proofs.Added.{new_run, new_start, next_small, added_same, added_keeps, added_tried}
 use Rattle.halves.proofs.node.add_run.Goals as goal
 
-pub overflow_add-end : goal.overflow_add-end
-overflow_add-end c = omega (arith, new_start c.args.w.now c.args.a c.args.b c.args.p _ c.requires.1)
-
-pub overflow_add-next : goal.overflow_add-next
-overflow_add-next c = omega (arith, new_start c.args.w.now c.args.a c.args.b c.args.p _ c.requires.1)
-
-pub offset_bounds-scratch-next : goal.offset_bounds-scratch-next
-offset_bounds-scratch-next c = omega (arith, new_start c.args.w.now c.args.a c.args.b c.args.p _ c.requires.1)
-
-pub bounds-scratch-next : goal.bounds-scratch-next
-bounds-scratch-next c = omega (arith, new_start c.args.w.now c.args.a c.args.b c.args.p _ c.requires.1)
-
 pub put_run-requires : goal.put_run-requires
 put_run-requires c =
     let g = c.args in
     let q = c.requires in
     let z = two_turns g.w.now g.a g.b g.p (new_run g.w.now g.a g.b g.p _ q.1) in
     (omega (arith, next_small g.w.now g.scratch.now g.a g.b g.p q.0 q.1), omega arith, q.1.within, z.0, z.1)
-
-pub offset_bounds-scratch-end : goal.offset_bounds-scratch-end
-offset_bounds-scratch-end c = omega (arith, new_start c.args.w.now c.args.a c.args.b c.args.p _ c.requires.1)
-
-pub bounds-scratch-end : goal.bounds-scratch-end
-bounds-scratch-end c = omega (arith, new_start c.args.w.now c.args.a c.args.b c.args.p _ c.requires.1)
-
-pub overflow_add-scratch : goal.overflow_add-scratch
-overflow_add-scratch c = omega (arith, next_small c.args.w.now c.args.scratch.now c.args.a c.args.b c.args.p c.requires.0 c.requires.1)
-
-pub offset_bounds-scratch-next-2 : goal.offset_bounds-scratch-next-2
-offset_bounds-scratch-next-2 c = omega (arith, new_start c.args.w.now c.args.a c.args.b c.args.p _ c.requires.1)
 
 pub bounds-scratch-next-2 : goal.bounds-scratch-next-2
 bounds-scratch-next-2 c =

@@ -1,56 +1,77 @@
--- `nodes::inner::nodes` meets its contract: each refusal of its own is the case of `nodes_outcome` that its tests lead to, the rest is what the functions above give,
--- and `nodes_mean` says what that means. Assumes nothing.
-use mathlib.Core.Path.{sym, ◌∙◌}
-use Prim.Native.Nat.{◌≤◌, ◌<◌}
+-- `nodes::inner::nodes` meets its contract: each way out is the case of `nodes_outcome` that its tests lead to, and `nodes_mean` says what that means. Assumes nothing.
+use mathlib.Core.Path.{◌≡◌, ◌∙◌}
+use mathlib.Core.List.{List}
+use Prim.Native.Nat.{ℕ, ◌≤◌, ◌<◌}
 use native.Mathlib.Omega.{arith}
 use lib.ListN.{length}
-use Rattle.answers.specs.Outcome.{limit}
-use Rattle.periods.specs.Width.{word_of}
-use Rattle.periods.proofs.Editions.{edition_by_test, no_edition_by_test}
-use Rattle.nodes.proofs.CallClaims.{nodes_too_long, nodes_bad_edition, nodes_outside, nodes_answered}
+use Rattle.std.specs.Prelude.{Ok, Err}
+use Rattle.std.proofs.lemmas.Result.{err_from_is_err_and}
+use Rattle.answers.specs.declared.Refusal.{Refusal}
+use Rattle.answers.specs.Outcome.{Outcome, refused, refusal, limit}
+use Rattle.periods.specs.declared.edition.Edition as known
+use Rattle.periods.specs.Period.{held_period}
+use Rattle.periods.specs.Edition.{edition_of, turns_in}
+use Rattle.periods.specs.Width.{symbols}
+use Rattle.periods.proofs.Editions.{edition_known, turns_known, edition_refused, refusal_known}
+use Rattle.nodes.specs.Node.{nodes_at}
+use Rattle.nodes.specs.Inner.{listed_outcome, listed_table}
+use Rattle.nodes.proofs.CallClaims.{NodesGive, nodes_too_long, nodes_bad_edition, nodes_outside, nodes_passed, nodes_given}
 use Rattle.nodes.proofs.inner.nodes.Goals as goal
+
+module _ (w : List ℕ) (edition x : ℕ) (t : List ℕ) (n : ℕ) (is : n ≡ length w) where
+  long : limit < n → NodesGive w edition x t (refused 1 0) t
+  long h = nodes_too_long w edition x t (omega arith)
+
+  module _ (h : n ≤ limit) where
+    bad : (r : Refusal) → Err r ≡ edition_of edition → NodesGive w edition x t (refusal r) t
+    bad r f = rw (refusal_known edition r f) (nodes_bad_edition w edition x t (omega arith) (edition_refused edition r f))
+
+    module _ (e : known.Edition) (f : Ok e ≡ edition_of edition) where
+      outside : ((1 ≤ x) × (x ≤ n) → ⊥) → NodesGive w edition x t (refused 6 0) t
+      outside k = nodes_outside w edition x t (omega arith) (edition_known edition e f) (λ i. k (i.0, omega (arith, i.1)))
+
+      passed : 1 ≤ x → x ≤ n → (o : Outcome) (u : List ℕ) → o ≡ listed_outcome (nodes_at held_period (turns_in e) w x) (length t)
+          → u ≡ listed_table (nodes_at held_period (turns_in e) w x) t → NodesGive w edition x t o u
+      passed a b o u p q =
+          let g = nodes_passed w edition x t (omega arith) (edition_known edition e f) (a, omega arith) in
+          (rw (turns_known edition e f) at p ∙ g.0, rw (turns_known edition e f) at q ∙ g.1)
 
 pub returns-then-n-gt-LIMIT : goal.returns-then-n-gt-LIMIT
 returns-then-n-gt-LIMIT c =
     let g = c.args in
-    let w = word_of g.wide g.bytes.now g.codes.now in
-    let long : limit < length w = omega arith in
-    let a = nodes_answered w g.edition g.position g.table.now _ _ (nodes_too_long w g.edition g.position g.table.now long) in
-    record { result_value = a.0; table_after = a.1.0; nodes_meaning = a.1.1 }
+    let P = long (symbols g.w) g.edition g.position g.table.now _ c.len-n.ensures c.if-n-gt-LIMIT.true in
+    record { result_value = P.0; table_after = P.1; nodes_meaning = nodes_given _ _ _ _ _ _ P }
 
-pub returns-then-bad_edition : goal.returns-then-bad_edition
-returns-then-bad_edition c =
+pub returns-in_err-edition : goal.returns-in_err-edition
+returns-in_err-edition c =
     let g = c.args in
-    let w = word_of g.wide g.bytes.now g.codes.now in
-    let fits : length w ≤ limit = omega arith in
-    let none = no_edition_by_test g.edition (sym c.bad_edition.ensures ∙ c.if-bad_edition.true) in
-    let a = nodes_answered w g.edition g.position g.table.now _ _ (nodes_bad_edition w g.edition g.position g.table.now fits none) in
-    record { result_value = a.0; table_after = a.1.0; nodes_meaning = a.1.1 }
+    let e = err_from_is_err_and c.from_residual.result c.from_residual.ensures.1 in
+    let P = bad (symbols g.w) g.edition g.position g.table.now _ c.len-n.ensures c.if-n-gt-LIMIT.false _ c.in_err-edition.ensures in
+    rw (e.1, e.2) record { result_value = P.0; table_after = P.1; nodes_meaning = nodes_given _ _ _ _ _ _ P }
 
-pub returns-then-position-lt1 : goal.returns-then-position-lt1
-returns-then-position-lt1 c =
+pub returns-then-place-lt1 : goal.returns-then-place-lt1
+returns-then-place-lt1 c =
     let g = c.args in
-    let w = word_of g.wide g.bytes.now g.codes.now in
-    let fits : length w ≤ limit = omega arith in
-    let known = edition_by_test g.edition (sym c.bad_edition.ensures ∙ c.if-bad_edition.false) in
-    let a = nodes_answered w g.edition g.position g.table.now _ _ (nodes_outside w g.edition g.position g.table.now fits known (λ h. omega (arith, h))) in
-    record { result_value = a.0; table_after = a.1.0; nodes_meaning = a.1.1 }
+    let P = outside (symbols g.w) g.edition g.position g.table.now _ c.len-n.ensures c.if-n-gt-LIMIT.false _ c.in_ok-edition.ensures (λ i. omega (arith, i, c.then-place-lt1.either)) in
+    record { result_value = P.0; table_after = P.1; nodes_meaning = nodes_given _ _ _ _ _ _ P }
 
-pub returns-then-n-position : goal.returns-then-n-position
-returns-then-n-position c =
+pub returns-then-n-le-SHORT : goal.returns-then-n-le-SHORT
+returns-then-n-le-SHORT c =
     let g = c.args in
-    let w = word_of g.wide g.bytes.now g.codes.now in
-    let fits : length w ≤ limit = omega arith in
-    let known = edition_by_test g.edition (sym c.bad_edition.ensures ∙ c.if-bad_edition.false) in
-    let a = nodes_answered w g.edition g.position g.table.now _ _ (nodes_outside w g.edition g.position g.table.now fits known (λ h. omega (arith, h))) in
-    record { result_value = a.0; table_after = a.1.0; nodes_meaning = a.1.1 }
+    let e = c.nodes_with.ensures in
+    let P = passed (symbols g.w) g.edition g.position g.table.now _ c.len-n.ensures c.if-n-gt-LIMIT.false _ c.in_ok-edition.ensures c.if-place-lt1.false c.if-n-place.false _ _ e.result_value e.table_after in
+    record { result_value = P.0; table_after = P.1; nodes_meaning = nodes_given _ _ _ _ _ _ P }
 
-pub nodes_at-requires : goal.nodes_at-requires
-nodes_at-requires c =
-    (omega arith, edition_by_test c.args.edition (sym c.bad_edition.ensures ∙ c.if-bad_edition.false), omega arith, omega arith)
-
-pub returns-clause-nodes_meaning : goal.returns-clause-nodes_meaning
-returns-clause-nodes_meaning c =
+pub returns-then-n-le-MIDDLE : goal.returns-then-n-le-MIDDLE
+returns-then-n-le-MIDDLE c =
     let g = c.args in
-    let e = c.nodes_at.ensures in
-    (nodes_answered (word_of g.wide g.bytes.now g.codes.now) g.edition g.position g.table.now _ _ (e.result_value, e.table_after)).1.1
+    let e = c.nodes_with-then-n-le-MIDDLE.ensures in
+    let P = passed (symbols g.w) g.edition g.position g.table.now _ c.len-n.ensures c.if-n-gt-LIMIT.false _ c.in_ok-edition.ensures c.if-place-lt1.false c.if-n-place.false _ _ e.result_value e.table_after in
+    record { result_value = P.0; table_after = P.1; nodes_meaning = nodes_given _ _ _ _ _ _ P }
+
+pub returns : goal.returns
+returns c =
+    let g = c.args in
+    let e = c.nodes_with-2.ensures in
+    let P = passed (symbols g.w) g.edition g.position g.table.now _ c.len-n.ensures c.if-n-gt-LIMIT.false _ c.in_ok-edition.ensures c.if-place-lt1.false c.if-n-place.false _ _ e.result_value e.table_after in
+    record { result_value = P.0; table_after = P.1; nodes_meaning = nodes_given _ _ _ _ _ _ P }

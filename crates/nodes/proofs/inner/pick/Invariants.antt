@@ -1,13 +1,9 @@
 -- `nodes::inner::pick` meets its contract: its loop keeps that the numbers of those of the first i marks that are set are counted and stored. Assumes nothing.
 use mathlib.Core.Path.{◌≡◌}
-use Prim.Native.Nat.{◌-◌, ◌≤◌}
 use lib.ListN.{length, take}
 use lib.Seq.{sets}
 use Rattle.nodes.specs.Inner.{marked}
 use Rattle.nodes.proofs.inner.pick.Given as goal
 
 abbrev pub invariant-loop-i : goal.invariant-loop-i
-invariant-loop-i l = (l.i ≤ l.count) × (l.found ≡ length (marked 0 (take l.i l.marks))) × (l.out ≡ sets l.initial.out 0 (marked 0 (take l.i l.marks)))
-
-abbrev pub decreases-loop-i : goal.decreases-loop-i
-decreases-loop-i l = l.count - l.i
+invariant-loop-i l = (l.found ≡ length (marked 0 (take l.i l.marks))) × (l.out ≡ sets l.initial.out 0 (marked 0 (take l.i l.marks)))

@@ -1,13 +1,8 @@
 -- `page_lines::inner::put_numbers` meets its contract: its loop keeps what is left to store, from the start of the next column on. Assumes nothing.
-use mathlib.Core.Path.{◌≡◌}
-use Prim.Native.Nat.{◌+◌, ◌-◌, ◌≤◌}
-use lib.ListN.{length, drop}
+use Rattle.std.proofs.Common.{◌+◌, drop}
 use Rattle.writers.proofs.Stores.{Left}
-use Rattle.page_lines.specs.Line.{widths, start_of, number_columns, columns}
+use Rattle.page_lines.specs.Line.{widths, start_of, columns}
 use Rattle.page_lines.proofs.inner.put_numbers.Given as goal
 
 abbrev pub invariant-loop-c : goal.invariant-loop-c
-invariant-loop-c l = (l.c ≤ number_columns) × (length l.out ≡ length l.initial.out) × Left l.initial.out l.at (columns widths l.numbers) l.out (l.at + start_of l.c) (columns (drop l.c widths) (drop l.c l.numbers))
-
-abbrev pub decreases-loop-c : goal.decreases-loop-c
-decreases-loop-c l = length l.numbers - l.c
+invariant-loop-c l = Left l.initial.out l.at (columns widths l.numbers) l.out (l.at + start_of l.c) (columns (drop l.c widths) (drop l.c l.numbers))

@@ -3,19 +3,15 @@
 use mathlib.Core.Path.{sym, ◌∙◌}
 use Prim.Native.Nat.{◌-◌}
 use native.Mathlib.Omega.{arith}
-use lib.ListN.{length-set}
 use Rattle.page_lines.proofs.Columns.{digit_stored, digits_stored}
 use Rattle.page_lines.proofs.inner.put_symbol.Goals as goal
 
 pub loop-left-preserved : goal.loop-left-preserved
 loop-left-preserved c =
-    let l = c.loop-left in (
-      omega arith,
-      length-set l.out _ _ ∙ l.invariant.1,
-      sym (digit_stored l.out c.args.at l.left (l.left - 1) l.rest (omega arith)) ∙ l.invariant.2,
-    )
+    let l = c.loop-left in
+    rw c.from.ensures (sym (digit_stored l.out c.args.at l.left (l.left - 1) l.rest (omega arith)) ∙ l.invariant)
 
 pub returns : goal.returns
 returns c =
     let l = c.loop-left in
-    sym (digits_stored l.out c.args.at l.left l.rest (omega arith)) ∙ l.invariant.2
+    sym (digits_stored l.out c.args.at l.left l.rest (omega arith)) ∙ l.invariant

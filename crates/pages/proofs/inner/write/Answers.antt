@@ -5,18 +5,19 @@ use mathlib.Core.List.{List, [], ◌∷◌, head-eq_of_cons-eq}
 use Prim.Native.Nat.{ℕ, ◌*◌, ◌≤◌}
 use native.Mathlib.Omega.{arith}
 use lib.ListN.{length}
+use Rattle.std.proofs.lemmas.Result.{err_from_is_err_and}
 use Rattle.laws.proofs.Stores.{sets-front}
 use Rattle.answers.specs.Outcome.{accepted, limit}
 use Rattle.periods.specs.Period.{held_period}
-use Rattle.periods.specs.Width.{word_of}
+use Rattle.periods.specs.Width.{symbols}
 use Rattle.factors.specs.Factorization.{Factorization}
 use Rattle.repetitions.specs.Block.{Block}
 use Rattle.repetitions.specs.Judge.{split_outcome}
 use Rattle.repetitions.proofs.Blocks.{blocks_half, edition_two_turns}
 use Rattle.repetitions.proofs.JudgeClaims.{accepted_split}
-use Rattle.page_lines.specs.declared.Form.{Form}
-use Rattle.page_lines.specs.Line.{line_bytes, Fits}
-use Rattle.pages.specs.Page.{page}
+use Rattle.page_lines.specs.declared.form.Form.{Form}
+use Rattle.page_lines.specs.Line.{line_bytes}
+use Rattle.pages.specs.Page.{form_in, page}
 use Rattle.pages.proofs.CallClaims.{bytes, page_refused, page_few, page_written, page_answered}
 use Rattle.pages.proofs.inner.write.Goals as goal
 
@@ -31,49 +32,48 @@ module _ (w : List ℕ) (edition : ℕ) (ends : List ℕ) (blocks : ℕ) (e : ac
   counted : blocks ≡ length ends
   counted = head-eq_of_cons-eq (accepted_split w edition ends (blocks ∷ []) e).1
 
-  size : (form : Form) → Fits form → length (page form w ends) ≡ line_bytes * blocks
-  size form F = bytes form F w edition ends within (accepted_split w edition ends (blocks ∷ []) e).3 ∙ ap (λ (n : ℕ). line_bytes * n) (sym counted)
+  size : (form : Form) → length (page form w ends) ≡ line_bytes * blocks
+  size form = bytes form w edition ends within (accepted_split w edition ends (blocks ∷ []) e).3 ∙ ap (λ (n : ℕ). line_bytes * n) (sym counted)
+
+pub returns-in_err-blocks : goal.returns-in_err-blocks
+returns-in_err-blocks c =
+    let g = c.args in
+    let e = err_from_is_err_and c.from_residual.result c.from_residual.ensures.1 in
+    let A = page_answered (form_in g.w) (symbols g.w) g.edition g.ends.now g.out.now _ _ (page_refused (form_in g.w) (symbols g.w) g.edition g.ends.now g.out.now _ _ c.in_err-blocks.ensures.result_value) in
+    rw (e.1, e.2) record { result_value = A.0; out_after = A.1.0; page_meaning = A.1.1 }
 
 pub returns-then-out-size : goal.returns-then-out-size
 returns-then-out-size c =
     let g = c.args in
-    let w = word_of g.wide g.bytes.now g.codes.now in
-    let e = c.in-Count.ensures.result_value in
-    let A = page_answered g.form w g.edition g.ends.now g.out.now c.requires _ _
-    (page_few g.form w g.edition g.ends.now g.out.now _ e (omega (arith, size w g.edition g.ends.now _ e g.form c.requires, c.if-out-size.true))) in
+    let w = symbols g.w in
+    let e = c.in_ok-blocks.ensures.result_value in
+    let A = page_answered (form_in g.w) w g.edition g.ends.now g.out.now _ _
+    (page_few (form_in g.w) w g.edition g.ends.now g.out.now _ e (omega (arith, size w g.edition g.ends.now _ e (form_in g.w), c.if-out-size.true))) in
     record { result_value = A.0; out_after = A.1.0; page_meaning = A.1.1 }
 
 pub lines-requires : goal.lines-requires
 lines-requires c =
     let g = c.args in
-    let w = word_of g.wide g.bytes.now g.codes.now in
-    let e = c.in-Count.ensures.result_value in
-    ((within w g.edition g.ends.now _ e, split w g.edition g.ends.now _ e), omega (arith, counted w g.edition g.ends.now _ e, c.if-out-size.false), c.requires)
+    let w = symbols g.w in
+    let e = c.in_ok-blocks.ensures.result_value in
+    ((within w g.edition g.ends.now _ e, split w g.edition g.ends.now _ e), omega (arith, counted w g.edition g.ends.now _ e, c.if-out-size.false))
 
 pub overflow_cast-result : goal.overflow_cast-result
 overflow_cast-result c =
     let g = c.args in
-    let w = word_of g.wide g.bytes.now g.codes.now in
-    let e = c.in-Count.ensures.result_value in
+    let w = symbols g.w in
+    let e = c.in_ok-blocks.ensures.result_value in
     let few = blocks_half held_period 2 w (omega arith) (length w) g.ends.now (split w g.edition g.ends.now _ e) in
     omega (arith, few, counted w g.edition g.ends.now _ e, within w g.edition g.ends.now _ e)
 
-pub returns-in-Refused : goal.returns-in-Refused
-returns-in-Refused c =
+pub returns : goal.returns
+returns c =
     let g = c.args in
-    let w = word_of g.wide g.bytes.now g.codes.now in
-    let A = page_answered g.form w g.edition g.ends.now g.out.now c.requires _ _
-    (page_refused g.form w g.edition g.ends.now g.out.now _ _ c.in-Refused.ensures.result_value) in
-    record { result_value = A.0; out_after = A.1.0; page_meaning = A.1.1 }
-
-pub returns-else-out-size : goal.returns-else-out-size
-returns-else-out-size c =
-    let g = c.args in
-    let w = word_of g.wide g.bytes.now g.codes.now in
-    let e = c.in-Count.ensures.result_value in
-    let n = size w g.edition g.ends.now _ e g.form c.requires in
-    let room : length (page g.form w g.ends.now) ≤ length g.out.now = omega (arith, n, c.if-out-size.false) in
-    let P = page_written g.form w g.edition g.ends.now g.out.now _ e room in
-    let A = page_answered g.form w g.edition g.ends.now g.out.now c.requires _ _
-    (ap (λ (b : ℕ). accepted (b ∷ [])) (sym n) ∙ P.0, c.lines.ensures ∙ sets-front g.out.now (page g.form w g.ends.now) room ∙ P.1) in
+    let w = symbols g.w in
+    let e = c.in_ok-blocks.ensures.result_value in
+    let n = size w g.edition g.ends.now _ e (form_in g.w) in
+    let room : length (page (form_in g.w) w g.ends.now) ≤ length g.out.now = omega (arith, n, c.if-out-size.false) in
+    let P = page_written (form_in g.w) w g.edition g.ends.now g.out.now _ e room in
+    let A = page_answered (form_in g.w) w g.edition g.ends.now g.out.now _ _
+    (ap (λ (b : ℕ). accepted (b ∷ [])) (sym n) ∙ P.0, c.lines.ensures ∙ sets-front g.out.now (page (form_in g.w) w g.ends.now) room ∙ P.1) in
     record { result_value = A.0; out_after = A.1.0; page_meaning = A.1.1 }

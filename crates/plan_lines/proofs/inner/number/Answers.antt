@@ -1,14 +1,12 @@
 -- `plan_lines::inner::number` meets its contract: the reader gives the number of the digits that stand there. Assumes nothing.
-use mathlib.Core.Path.{subst}
-use lib.Dec.{T}
-use Rattle.decimals.specs.Decimal.{field}
-use Rattle.decimals.proofs.Claims.{number_some, number_none}
+use mathlib.Core.Path.{sym, ap, ◌∙◌}
+use Rattle.decimals.specs.Read.{number_view}
+use Rattle.plan_lines.specs.Kinds.{width_in}
+use Rattle.plan_lines.proofs.Loops.{some_read, value_read}
 use Rattle.plan_lines.proofs.inner.number.Goals as goal
 
-pub returns-in-Value : goal.returns-in-Value
-returns-in-Value c = let g = c.args in (number_some (field g.s.now g.at g.width) c.in-Value.x c.in-Value.ensures).1
+pub unwrap-requires : goal.unwrap-requires
+unwrap-requires c = some_read (width_in c.args.kind) c.width.result c.args.s.now c.args.at c.read.result c.width.ensures c.read.ensures c.requires.1
 
-pub returns-in-NotDigits : goal.returns-in-NotDigits
-returns-in-NotDigits c =
-    let g = c.args in
-    absurd (subst T (number_none (field g.s.now g.at g.width) c.in-NotDigits.ensures) c.requires.2)
+pub returns : goal.returns
+returns c = value_read (width_in c.args.kind) c.width.result c.args.s.now c.args.at c.unwrap.result c.width.ensures (ap number_view (sym c.unwrap.ensures) ∙ c.read.ensures)

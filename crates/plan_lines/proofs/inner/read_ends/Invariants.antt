@@ -1,13 +1,10 @@
 -- `plan_lines::inner::read_ends` meets its contract: before the turn for end k + 1 the first k are in the table. Assumes nothing.
 use mathlib.Core.Path.{◌≡◌}
 use mathlib.Core.List.{◌++◌}
-use Prim.Native.Nat.{◌-◌, ◌≤◌}
 use lib.ListN.{length, drop}
 use Rattle.plan_lines.specs.Line.{ends_in}
+use Rattle.plan_lines.specs.Kinds.{width_in}
 use Rattle.plan_lines.proofs.inner.read_ends.Given as goal
 
 abbrev pub invariant-loop-k : goal.invariant-loop-k
-invariant-loop-k l = (l.k ≤ l.count) × (length l.table ≡ length l.initial.table) × (l.table ≡ ends_in l.width l.s l.k ++ drop l.k l.initial.table)
-
-abbrev pub decreases-loop-k : goal.decreases-loop-k
-decreases-loop-k l = l.count - l.k
+invariant-loop-k l = (length l.table ≡ length l.initial.table) × (l.table ≡ ends_in (width_in l.kind) l.s l.k ++ drop l.k l.initial.table)

@@ -1,14 +1,15 @@
 -- `repetitions::inner::best` meets its contract: each way out is the case of the definitions that its tests lead to, and `best_means` says what that means.
 -- Assumes nothing.
-use mathlib.Core.Path.{◌≡◌, sym, ◌∙◌, subst}
+use mathlib.Core.Path.{◌≡◌, subst}
 use mathlib.Core.List.{List}
 use Prim.Native.Nat.{ℕ}
 use native.Mathlib.Omega.{arith}
+use Rattle.std.proofs.lemmas.Result.{err_from_is_err_and}
 use Rattle.answers.specs.Outcome.{Outcome}
 use Rattle.periods.specs.Period.{repetition?, held_period}
-use Rattle.periods.specs.Width.{word_of}
+use Rattle.periods.specs.Width.{symbols}
 use Rattle.periods.specs.Edition.{turns_of}
-use Rattle.periods.proofs.Editions.{turns_given, edition_by_test, no_edition_by_test}
+use Rattle.periods.proofs.Editions.{edition_known, turns_known, edition_refused, refusal_known}
 use Rattle.factorizer.proofs.BestClaims.{ChosenGiven, Ensured, chosen_given}
 use Rattle.repetitions.proofs.BestClaims.{promised_long, promised_bad_edition, promised_chosen, best_answered}
 use Rattle.repetitions.proofs.inner.best.Goals as goal
@@ -19,31 +20,28 @@ chosen_so : (edition k : ℕ) → k ≡ turns_of edition → (w : List ℕ) (cho
 chosen_so edition k q w choice e t o x y E =
     subst (λ (z : ℕ). ChosenGiven (repetition? held_period z) w choice e t o x y) q (chosen_given (repetition? held_period k) w choice e t o x y E)
 
-pub returns-then-length-gt-LIMIT : goal.returns-then-length-gt-LIMIT
-returns-then-length-gt-LIMIT c =
+pub returns-then-len-gt-LIMIT : goal.returns-then-len-gt-LIMIT
+returns-then-len-gt-LIMIT c =
     let g = c.args in
-    let w = word_of g.wide g.bytes.now g.codes.now in
+    let w = symbols g.w in
     let r = best_answered w g.edition g.choice g.ends.now g.work.now _ _ _ (promised_long w g.edition g.choice g.ends.now g.work.now (omega arith)) in
     record { result_value = r.0; ends_after = r.1.0; work_after = r.1.1.0; best_meaning = r.1.1.1 }
 
-pub returns-then-bad_edition : goal.returns-then-bad_edition
-returns-then-bad_edition c =
+pub returns-in_err-edition : goal.returns-in_err-edition
+returns-in_err-edition c =
     let g = c.args in
-    let w = word_of g.wide g.bytes.now g.codes.now in
+    let w = symbols g.w in
+    let e = err_from_is_err_and c.from_residual.result c.from_residual.ensures.1 in
     let r = best_answered w g.edition g.choice g.ends.now g.work.now _ _ _
-    (promised_bad_edition w g.edition g.choice g.ends.now g.work.now (omega arith) (no_edition_by_test g.edition (sym c.bad_edition.ensures ∙ c.if-bad_edition.true))) in
-    record { result_value = r.0; ends_after = r.1.0; work_after = r.1.1.0; best_meaning = r.1.1.1 }
-
-pub best-requires : goal.best-requires
-best-requires c = (omega arith, turns_given c.args.edition _ c.turns.ensures)
+    (promised_bad_edition w g.edition g.choice g.ends.now g.work.now (omega arith) (edition_refused g.edition _ c.in_err-edition.ensures)) in
+    rw (e.1, e.2, refusal_known g.edition _ c.in_err-edition.ensures) record { result_value = r.0; ends_after = r.1.0; work_after = r.1.1.0; best_meaning = r.1.1.1 }
 
 pub returns : goal.returns
 returns c =
     let g = c.args in
-    let w = word_of g.wide g.bytes.now g.codes.now in
-    let known = edition_by_test g.edition (sym c.bad_edition.ensures ∙ c.if-bad_edition.false) in
+    let w = symbols g.w in
     let s = c.best.ensures in
     let r = best_answered w g.edition g.choice g.ends.now g.work.now _ _ _
-    (promised_chosen w g.edition g.choice g.ends.now g.work.now (omega arith) known _ _ _
-    (chosen_so g.edition _ c.turns.ensures w g.choice g.ends.now g.work.now _ _ _ (s.result_value, (s.ends_after, s.work_after)))) in
+    (promised_chosen w g.edition g.choice g.ends.now g.work.now (omega arith) (edition_known g.edition _ c.in_ok-edition.ensures) _ _ _
+    (chosen_so g.edition _ (turns_known g.edition _ c.in_ok-edition.ensures) w g.choice g.ends.now g.work.now _ _ _ (s.result_value, (s.ends_after, s.work_after)))) in
     record { result_value = r.0; ends_after = r.1.0; work_after = r.1.1.0; best_meaning = r.1.1.1 }

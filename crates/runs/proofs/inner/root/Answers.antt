@@ -1,7 +1,6 @@
 -- `runs::inner::root` meets its contract: its loop keeps that best and rival agree so far, and that of the starts before rival only best may be the least one.
 -- Each turn adds at least 1 to best, rival and same together, which stay below three units after the boundary. Assumes nothing.
 use mathlib.Core.Path.{sym, subst}
-use mathlib.Core.Logic.{inl, inr}
 use Prim.Native.Nat.{ℕ, ◌+◌, ◌<◌}
 use native.Mathlib.Omega.{arith}
 use native.Mathlib.Numerals.{add-one}
@@ -45,23 +44,6 @@ loop-rival-preserved-then-x-y-2 c =
     )
 
 -- rival comes first
-pub loop-rival-preserved-then-rival-past : goal.loop-rival-preserved-then-rival-past
-loop-rival-preserved-then-rival-past c =
-    let g = c.args in
-    let l = c.loop-rival in
-    let v = l.invariant in
-    let x = symbol g.w.now (l.best + l.same) in
-    let y = symbol g.w.now (l.rival + l.same) in
-    let later : y < x = omega (arith, c.if-x-y.false, c.if-x-y-2.false) in
-    let next = l.best + l.same + 1 in (
-      omega arith,
-      omega arith,
-      omega arith,
-      omega arith,
-      agree_none (symbol g.w.now) l.rival next,
-      best_passed g.w.now g.a g.p c.requires.1 c.requires.2 l.best l.rival l.same v.0 v.2 c.loop-rival-test.true v.4 v.3 later v.5 next (inr (omega arith)),
-    )
-
 pub loop-rival-preserved : goal.loop-rival-preserved
 loop-rival-preserved c =
     let g = c.args in
@@ -70,13 +52,13 @@ loop-rival-preserved c =
     let x = symbol g.w.now (l.best + l.same) in
     let y = symbol g.w.now (l.rival + l.same) in
     let later : y < x = omega (arith, c.if-x-y.false, c.if-x-y-2.false) in
-    let next = l.rival + 1 in (
+    let next = c.max-rival.result in (
       omega arith,
       omega arith,
-      omega arith,
+      omega (arith, c.max-rival.ensures),
       omega arith,
       agree_none (symbol g.w.now) l.rival next,
-      best_passed g.w.now g.a g.p c.requires.1 c.requires.2 l.best l.rival l.same v.0 v.2 c.loop-rival-test.true v.4 v.3 later v.5 next (inl (omega arith)),
+      best_passed g.w.now g.a g.p c.requires.1 c.requires.2 l.best l.rival l.same v.0 v.2 c.loop-rival-test.true v.4 v.3 later v.5 next (omega (arith, c.max-rival.ensures)),
     )
 
 pub returns : goal.returns

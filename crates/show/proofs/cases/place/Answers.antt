@@ -11,7 +11,7 @@ returns-then-s-i-clause-value c =
     omega (arith, ap length (byte_here c.args.s.now l.i (omega arith) c.args.b c.if-s-i.true), length-drop l.i c.args.s.now)
 
 pub loop-i-preserved : goal.loop-i-preserved
-loop-i-preserved c = (omega arith, omega (arith, ap length (byte_later c.args.s.now c.loop-i.i (omega arith) c.args.b c.if-s-i.false)))
+loop-i-preserved c = omega (arith, ap length (byte_later c.args.s.now c.loop-i.i (omega arith) c.args.b c.if-s-i.false))
 
 pub returns-clause-value : goal.returns-clause-value
 returns-clause-value c = omega (arith, ap length (byte_none c.args.s.now c.loop-i.i (omega arith) c.args.b))

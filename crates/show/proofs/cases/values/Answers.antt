@@ -8,10 +8,10 @@ use Rattle.show.specs.Cases.{values_in}
 use Rattle.show.proofs.Tables.{values_here, values_later, values_none, sets_out}
 use Rattle.show.proofs.cases.values.Goals as goal
 
-pub loop-i-preserved-then-s-at-ne-COMMA : goal.loop-i-preserved-then-s-at-ne-COMMA
-loop-i-preserved-then-s-at-ne-COMMA c =
+pub loop-i-preserved-then-b-ne-COMMA : goal.loop-i-preserved-then-b-ne-COMMA
+loop-i-preserved-then-b-ne-COMMA c =
     let l = c.loop-i in
-    let e = values_later c.args.s.now l.i (omega arith) c.if-s-at-ne-COMMA.true in
+    let e = values_later c.args.s.now l.i (omega arith) c.if-b-ne-COMMA.true in
     (omega arith, l.invariant.1, omega (arith, ap length e), ap (sets l.t l.k) (sym e) ∙ l.invariant.3)
 
 pub returns-then-t-k-clause-t_after : goal.returns-then-t-k-clause-t_after
@@ -22,7 +22,7 @@ returns-then-t-k-clause-t_after c =
 pub loop-i-preserved : goal.loop-i-preserved
 loop-i-preserved c =
     let l = c.loop-i in
-    let e = values_here c.args.s.now l.i (omega arith) c.if-s-at-ne-COMMA.false in
+    let e = values_here c.args.s.now l.i (omega arith) c.if-b-ne-COMMA.false in
     let n = length-set l.t l.k c.value.result in
     (omega (arith, n), omega (arith, n), omega (arith, ap length e, l.invariant.2), rw (add-one l.k, c.value.ensures) (ap (sets l.t l.k) (sym e) ∙ l.invariant.3))
 

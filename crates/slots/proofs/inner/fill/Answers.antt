@@ -1,12 +1,13 @@
 -- `slots::inner::fill` meets its contract: its loop keeps `Ready` of specs/Ready.antt, and the runs before the next one start before the boundary. Assumes
 -- nothing.
-use mathlib.Core.Path.{◌≡◌, refl, sym, ap, ◌∙◌, subst}
+use mathlib.Core.Path.{◌≡◌, ap, ◌∙◌}
 use mathlib.Core.List.{List}
 use Prim.Native.Nat.{ℕ, ◌+◌, ◌-◌, ◌≤◌, ◌<◌}
 use native.Mathlib.Omega.{arith}
 use lib.ListN.{length}
 use Rattle.runs.specs.Table.{runs_of, record_at}
-use Rattle.factors.specs.Factorization.{Choice, choice_of}
+use Rattle.factors.specs.Factorization.{Choice}
+use Rattle.factors.specs.Choice.{choice_in}
 use Rattle.factors.specs.Table.{started, filled}
 use Rattle.factors.proofs.Lent.{lent}
 use Rattle.periods.specs.Square.{square?}
@@ -19,21 +20,22 @@ use Rattle.slots.proofs.Tabled.{Tabled, tabled}
 use Rattle.slots.proofs.Admitting.{ready_starts, admitted_ready, ready_ends}
 use Rattle.slots.proofs.inner.fill.Goals as goal
 
--- the table at the head of the loop, where s and z are what `start` and `clear` left of table t, for a number n that is the word's length
-module _ (x : Choice) (w runs t s z : List ℕ) (n : ℕ) (is : n ≡ length w) (W : Workable w t) (I : RunsIn w runs) (f : s ≡ started n t) (g : z ≡ zeros s (n + 1) (second n)) where
+module _ (x : Choice) (w runs t : List ℕ) (n : ℕ) (is : n ≡ length w) (W : Workable w t) (I : RunsIn w runs) where
   found : Tabled w runs
   found = tabled w runs I
 
-  begun_by : lent s (n + 1) (second n) z ≡ begun w t
-  begun_by = rw is (begun_from w t s z (rw is at f) (rw is at g))
+  -- the table at the head of the loop, where s and z are what was left of it and of row 1
+  module _ (s z : List ℕ) (f : s ≡ started n t) (g : z ≡ zeros s (n + 1) (second n)) where
+    begun_by : lent s (n + 1) (second n) z ≡ begun w t
+    begun_by = rw is (begun_from w t s z (rw is at f) (rw is at g))
 
-  starts : Ready x w runs 1 1 0 (lent s (n + 1) (second n) z)
-  starts = subst (Ready x w runs 1 1 0) (sym begun_by) (ready_starts x w runs t found W.1)
+    starts : Ready x w runs 1 1 0 (lent s (n + 1) (second n) z)
+    starts = rw begun_by (ready_starts x w runs t found W.1)
 
-  module _ (u : List ℕ) (K : RestKept (length w) (lent s (n + 1) (second n) z) u) where
-    kept : RestKept (length w) t u
-    kept = let B : RestKept (length w) t (lent s (n + 1) (second n) z) = subst (RestKept (length w) t) (sym begun_by) (begun_kept w t W.1) in (K.0 ∙ B.0, K.1 ∙ B.1)
+    starts_kept : RestKept (length w) t (lent s (n + 1) (second n) z)
+    starts_kept = rw begun_by (begun_kept w t W.1)
 
+  module _ (u : List ℕ) (kept : RestKept (length w) t u) where
     -- the runs that were admitted
     module _ (e next lives count r : ℕ) (v : List ℕ) (many : count ≡ length (runs_of w)) (A : Admitted runs count e next r) (D : Added n lives next r u v) where
       workable : Workable w v
@@ -53,46 +55,46 @@ module _ (x : Choice) (w runs t s z : List ℕ) (n : ℕ) (is : n ≡ length w) 
         ∙ rw is (filled_from x (piece? square? w) w t u W.1 kept (ready_ends x w runs e e lives u (omega arith) S))
 
 pub loop-e-init : goal.loop-e-init
-loop-e-init c = (
-  omega arith,
-  omega arith,
-  omega arith,
-  omega arith,
-  (λ i h. absurd (omega arith)),
-  starts _ _ _ _ _ _ _ c.length-n.ensures c.requires.0 c.requires.1 c.start.ensures c.clear.ensures,
-  (refl, refl),
-)
+loop-e-init c =
+    let z = c.fill.ensures.after (λ y e. e) in
+    record {
+      next_fits = omega arith;
+      few_lives = omega arith;
+      before = λ i h. absurd (omega arith);
+      ready = starts _ _ _ _ _ c.len-n.ensures c.requires.0 c.requires.1 _ _ c.start.ensures z;
+      rest = starts_kept (choice_in c.args.choice) _ _ _ _ c.len-n.ensures c.requires.0 c.requires.1 _ _ c.start.ensures z;
+    }
 
 pub admit-upto-requires : goal.admit-upto-requires
 admit-upto-requires c =
-    let F = found (choice_of c.args.choice) _ _ _ _ _ _ c.length-n.ensures c.requires.0 c.requires.1 c.start.ensures c.clear.ensures in
-    let K = kept (choice_of c.args.choice) _ _ _ _ _ _ c.length-n.ensures c.requires.0 c.requires.1 c.start.ensures c.clear.ensures _ c.loop-e.invariant.6 in (
+    let l = c.loop-e.invariant in (
       omega (arith, c.requires.0.0),
-      omega (arith, c.requires.2, F.few),
+      omega (arith, c.requires.2, (tabled _ _ c.requires.1).few),
       omega (arith, c.requires.2, c.requires.1.0),
-      c.loop-e.invariant.2,
-      c.loop-e.invariant.3,
-      omega (arith, c.requires.0.1, K.0),
+      l.next_fits,
+      l.few_lives,
+      omega (arith, c.requires.0.1, l.rest.0),
     )
 
 pub visit-lives-requires-clause-workable : goal.visit-lives-requires-clause-workable
 visit-lives-requires-clause-workable c =
-    let a = c.admit-upto.ensures in (
-      workable (choice_of c.args.choice) _ _ _ _ _ _ c.length-n.ensures c.requires.0 c.requires.1 c.start.ensures c.clear.ensures _ c.loop-e.invariant.6 _ _ _ _ _ _ c.requires.2 a.admitted a.added,
+    let l = c.loop-e.invariant in
+    let a = c.admit-upto.ensures in
+    let x = choice_in c.args.choice in (
+      workable x _ _ _ _ c.len-n.ensures c.requires.0 c.requires.1 _ l.rest _ _ _ _ _ _ c.requires.2 a.admitted a.added,
       c.requires.1,
-      c.loop-e.invariant.0,
       omega arith,
-      few_lives (choice_of c.args.choice) _ _ _ _ _ _ c.length-n.ensures c.requires.0 c.requires.1 c.start.ensures c.clear.ensures _ c.loop-e.invariant.6 _ _ _ _ _ _ c.requires.2 a.admitted a.added
-          c.loop-e.invariant.3,
+      omega arith,
+      few_lives x _ _ _ _ c.len-n.ensures c.requires.0 c.requires.1 _ l.rest _ _ _ _ _ _ c.requires.2 a.admitted a.added l.few_lives,
     )
 
 pub visit-lives-requires-clause-ready : goal.visit-lives-requires-clause-ready
 visit-lives-requires-clause-ready c =
+    let l = c.loop-e.invariant in
     let a = c.admit-upto.ensures in
-    ready (choice_of c.args.choice) _ _ _ _ _ _ c.length-n.ensures c.requires.0 c.requires.1 c.start.ensures c.clear.ensures _ c.loop-e.invariant.6 _ _ _ _ _ _ c.requires.2 a.admitted a.added
-    (omega arith) c.loop-e.invariant.4 c.loop-e.invariant.5
+    ready _ _ _ _ _ c.len-n.ensures c.requires.0 c.requires.1 _ l.rest _ _ _ _ _ _ c.requires.2 a.admitted a.added (omega arith) l.before l.ready
 
 pub returns : goal.returns
 returns c =
-    ended (choice_of c.args.choice) _ _ _ _ _ _ c.length-n.ensures c.requires.0 c.requires.1 c.start.ensures c.clear.ensures _ c.loop-e.invariant.6 c.loop-e.e c.loop-e.lives _
-    (omega arith) c.loop-e.invariant.5 c.clear-2.ensures
+    let l = c.loop-e.invariant in
+    ended _ _ _ _ _ c.len-n.ensures c.requires.0 c.requires.1 _ l.rest c.loop-e.e c.loop-e.lives _ (omega arith) l.ready (c.fill-2.ensures.after (λ y e. e))

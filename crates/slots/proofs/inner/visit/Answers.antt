@@ -8,7 +8,7 @@ use lib.ListN.{length, get_or, set, length-set}
 use Rattle.runs.specs.declared.Record.{Record}
 use Rattle.runs.specs.Table.{record_at}
 use Rattle.factors.specs.Factorization.{Choice}
-use Rattle.factors.specs.Table.{none, offered}
+use Rattle.factors.specs.Table.{none, rows, offered}
 use Rattle.factorizer.specs.Fill.{Workable}
 use Rattle.factorizer.specs.Window.{RestKept}
 use Rattle.slots.specs.Starts.{InRun, Readable}
@@ -20,10 +20,22 @@ use Rattle.slots.proofs.Taken.{taken_none, taken_reached}
 use Rattle.slots.proofs.inner.visit.Goals as goal
 
 -- what the loop keeps at one turn, of a word of n symbols
-module _ (x : Choice) (w runs t : List ℕ) (n e lives : ℕ) (is : n ≡ length w) (W : Workable w t) (I : RunsIn w runs) (some : 1 ≤ e) (inside : e ≤ length w)
-    (few : lives ≤ length w) (S : Ready x w runs (e + 1) e lives t) where
+module _ (x : Choice) (w runs t : List ℕ) (n e lives : ℕ) (is : n ≡ length w)
+    (V : Workable w t × RunsIn w runs × (1 ≤ e) × (e ≤ length w) × (lives ≤ length w)) (S : Ready x w runs (e + 1) e lives t) where
+  W : Workable w t
+  W = V.0
+
+  some : 1 ≤ e
+  some = V.2
+
+  inside : e ≤ length w
+  inside = V.3
+
+  few : lives ≤ length w
+  few = V.4
+
   found : Tabled w runs
-  found = tabled w runs I
+  found = tabled w runs V.1
 
   module _ (u : List ℕ) (k kept best : ℕ) (U : Turn x w runs e lives t u k kept k best) where
     best_small : best ≤ e
@@ -45,16 +57,13 @@ module _ (x : Choice) (w runs t : List ℕ) (n e lives : ℕ) (is : n ≡ length
           → Turn x w runs e lives t v (k + 1) (kept + 1) (k + 1) b
       taken l v b f g = step-take x w runs found e some inside lives few t W.1 S u k kept best U h r row_is l v b (rw is at f) (rw is at g)
 
-      in_run : InRun n (r.first - 1) (2 * r.period) e (set u (list_row n + kept) (get_or u (list_row n + k) 0))
+      in_run : InRun n (r.first - 1) (2 * r.period) e
       in_run =
-          let N = run_numbers in (
-            omega (arith, W.0),
-            omega (arith, N.unit),
-            omega (arith, N.small),
-            omega (arith, N.starts, N.begun),
-            omega arith,
-            omega (arith, W.1, length-set u (list_row n + kept) (get_or u (list_row n + k) 0), U.rest.0),
-          )
+          let N = run_numbers in
+          (omega (arith, W.0), omega (arith, N.unit), omega (arith, N.small), omega (arith, N.starts, N.begun), omega arith)
+
+      long : rows * (n + 1) ≤ length (set u (list_row n + kept) (get_or u (list_row n + k) 0))
+      long = omega (arith, W.1, length-set u (list_row n + kept) (get_or u (list_row n + k) 0), U.rest.0)
 
       reads : e ≤ r.last → Readable n (set u (list_row n + kept) (get_or u (list_row n + k) 0)) (r.first - 1) (2 * r.period) e
       reads l = rw is (step_reads x w runs found e some inside lives few t W.1 S u k kept best U h r row_is l)
@@ -81,58 +90,38 @@ module _ (x : Choice) (w runs t : List ℕ) (n e lives : ℕ) (is : n ≡ length
 
 pub loop-k-preserved-then-run-e : goal.loop-k-preserved-then-run-e
 loop-k-preserved-then-run-e c =
-    let (W, I, s, i, f) = c.requires.workable in (
-      omega arith,
-      over _ _ _ _ _ _ _ c.length-n.ensures W I s i f c.requires.ready _ _ _ _ c.loop-k.invariant.1 c.loop-k-test.true _ c.row-run.ensures c.if-run-e.true,
-    )
+    let T = over _ _ _ _ _ _ _ c.len-n.ensures c.requires.workable c.requires.ready _ _ _ _ c.loop-k.invariant.turn c.loop-k-test.true _ c.row-run.ensures c.if-run-e.true in
+    record { turn = T; best_small = c.loop-k.invariant.best_small }
 
 pub overflow_sub-a : goal.overflow_sub-a
 overflow_sub-a c =
-    let (W, I, s, i, f) = c.requires.workable in
-    (run_numbers _ _ _ _ _ _ _ c.length-n.ensures W I s i f c.requires.ready _ _ _ _ c.loop-k.invariant.1 c.loop-k-test.true _ c.row-run.ensures).starts
+    (run_numbers _ _ _ _ _ _ _ c.len-n.ensures c.requires.workable c.requires.ready _ _ _ _ c.loop-k.invariant.turn c.loop-k-test.true _ c.row-run.ensures).starts
+
+pub invariant_of-take : goal.invariant_of-take
+invariant_of-take c =
+    record { in_run = in_run _ _ _ _ _ _ _ c.len-n.ensures c.requires.workable c.requires.ready _ _ _ _ c.loop-k.invariant.turn c.loop-k-test.true _ c.row-run.ensures }
 
 pub take-best-requires : goal.take-best-requires
-take-best-requires c =
-    let (W, I, s, i, f) = c.requires.workable in (
-      in_run _ _ _ _ _ _ _ c.length-n.ensures W I s i f c.requires.ready _ _ _ _ c.loop-k.invariant.1 c.loop-k-test.true _ c.row-run.ensures,
-      omega (arith, best_small _ _ _ _ _ _ _ c.length-n.ensures W I s i f c.requires.ready _ _ _ _ c.loop-k.invariant.1),
-      reads _ _ _ _ _ _ _ c.length-n.ensures W I s i f c.requires.ready _ _ _ _ c.loop-k.invariant.1 c.loop-k-test.true _ c.row-run.ensures c.if-run-e.false,
-    )
+take-best-requires c = (
+  long _ _ _ _ _ _ _ c.len-n.ensures c.requires.workable c.requires.ready _ _ _ _ c.loop-k.invariant.turn c.loop-k-test.true _ c.row-run.ensures,
+  omega arith,
+  reads _ _ _ _ _ _ _ c.len-n.ensures c.requires.workable c.requires.ready _ _ _ _ c.loop-k.invariant.turn c.loop-k-test.true _ c.row-run.ensures c.if-run-e.false,
+)
 
 pub loop-k-preserved : goal.loop-k-preserved
 loop-k-preserved c =
-    let (W, I, s, i, f) = c.requires.workable in (
-      omega arith,
-      taken _ _ _ _ _ _ _ c.length-n.ensures W I s i f c.requires.ready _ _ _ _ c.loop-k.invariant.1 c.loop-k-test.true _ c.row-run.ensures c.if-run-e.false _ _
-          c.take-best.ensures.work_after c.take-best.ensures.value,
-    )
-
-pub offset_bounds-work-best : goal.offset_bounds-work-best
-offset_bounds-work-best c =
-    let (W, I, s, i, f) = c.requires.workable in
-    omega (arith, W.0, best_small _ _ _ _ _ _ _ c.length-n.ensures W I s i f c.requires.ready _ _ _ _ c.loop-k.invariant.1)
-
-pub bounds-work-best : goal.bounds-work-best
-bounds-work-best c =
-    let (W, I, s, i, f) = c.requires.workable in
-    omega (arith, W.1, c.loop-k.invariant.1.rest.0, best_small _ _ _ _ _ _ _ c.length-n.ensures W I s i f c.requires.ready _ _ _ _ c.loop-k.invariant.1)
-
-pub overflow_cast-best : goal.overflow_cast-best
-overflow_cast-best c =
-    let (W, I, s, i, f) = c.requires.workable in
-    omega (arith, W.0, best_small _ _ _ _ _ _ _ c.length-n.ensures W I s i f c.requires.ready _ _ _ _ c.loop-k.invariant.1)
+    let T = taken _ _ _ _ _ _ _ c.len-n.ensures c.requires.workable c.requires.ready _ _ _ _ c.loop-k.invariant.turn c.loop-k-test.true _ c.row-run.ensures c.if-run-e.false _ _
+    c.take-best.ensures.work_after c.take-best.ensures.value in
+    record { turn = T; best_small = best_small _ _ _ _ _ _ _ c.len-n.ensures c.requires.workable c.requires.ready _ _ _ _ T }
 
 pub returns-then-size-clause-upper_bound : goal.returns-then-size-clause-upper_bound
 returns-then-size-clause-upper_bound c =
-    let (W, I, s, i, f) = c.requires.workable in
-    one_offered _ _ _ _ _ _ _ c.length-n.ensures W I s i f c.requires.ready _ _ _ _ c.loop-k.invariant.1 c.loop-k-test.false c.loop-k.invariant.0 c.if-size.true _ c.offer.ensures
+    one_offered _ _ _ _ _ _ _ c.len-n.ensures c.requires.workable c.requires.ready _ _ _ _ c.loop-k.invariant.turn (omega arith) (omega arith) c.if-size.true _ c.offer.ensures
 
 pub returns-then-size-clause-rest_kept : goal.returns-then-size-clause-rest_kept
 returns-then-size-clause-rest_kept c =
-    let (W, I, s, i, f) = c.requires.workable in
-    rest_after _ _ _ _ _ _ _ c.length-n.ensures W I s i f c.requires.ready _ _ _ _ c.loop-k.invariant.1 c.loop-k-test.false c.loop-k.invariant.0 _ c.offer.ensures
+    rest_after _ _ _ _ _ _ _ c.len-n.ensures c.requires.workable c.requires.ready _ _ _ _ c.loop-k.invariant.turn (omega arith) (omega arith) _ c.offer.ensures
 
 pub returns-else-size-clause-upper_bound : goal.returns-else-size-clause-upper_bound
 returns-else-size-clause-upper_bound c =
-    let (W, I, s, i, f) = c.requires.workable in
-    none_offered _ _ _ _ _ _ _ c.length-n.ensures W I s i f c.requires.ready _ _ _ _ c.loop-k.invariant.1 c.loop-k-test.false c.loop-k.invariant.0 c.if-size.false
+    none_offered _ _ _ _ _ _ _ c.len-n.ensures c.requires.workable c.requires.ready _ _ _ _ c.loop-k.invariant.turn (omega arith) (omega arith) c.if-size.false
