@@ -17,7 +17,7 @@ ghost use Rattle.factorizer.specs.Judge.{piece_verdict};
 
 use super::Rule;
 use answers::Refusal;
-use factors::{Choice, NONE};
+use factors::{AsChoice, Choice, NONE};
 use periods::{Edition, Word};
 
 // Offers a size from boundary j to each of the next len boundaries at which a block that starts there
@@ -107,19 +107,20 @@ fn lengthen(w: Word, m: usize, period: usize, work: &mut [u32])
 // boundary that it came from. Boundaries in rising order; one that is not reached offers nothing. From
 // each only a window is read, the turns of the longest unit: a longer block goes on with a period of
 // it. Time: the product of the word's length and the window at most.
-pub fn fill(w: Word, edition: Edition, choice: Choice, work: &mut [u32])
+pub fn fill<C: AsChoice>(w: Word, edition: Edition, choice: C, work: &mut [u32])
     requires { Workable (symbols w) work.old }
-    ensures { work.new ≡ filled (choice_in choice) (piece? (repetition? held_period (turns_in edition)) (symbols w.entry)) (length (symbols w.entry)) work.old }
+    ensures { work.new ≡ filled (C.asked choice) (piece? (repetition? held_period (turns_in edition)) (symbols w.entry)) (length (symbols w.entry)) work.old }
 {
     let n = w.len();
     let row = n + 1;
     let two = row + row;
     factors::inner::start(work, n);
     work[row..two].fill(0);
+    let asked = choice.choice();
     let window = edition.turns() * periods::UNIT_MEMORY;
     let mut unit: usize = 0;
     for j in 0..n {
-        unit = visit(w, edition, choice, j, unit, work);
+        unit = visit(w, edition, asked, j, unit, work);
         lengthen(w, j + window, unit, work);
     }
     let four = two + two;
@@ -195,6 +196,8 @@ fn is_block(w: Word, rule: Rule) -> bool
 
 // The judge of a split of a word within the limit: accepted, with the number of blocks, exactly when
 // the ends are those of a factorization. Refusals: for each end in turn 3, 4; then 5.
+// Inlined, so that each call has the loop of its rule and of one width alone.
+#[inline(always)]
 pub fn judge(w: Word, rule: Rule, ends: &[u32]) -> Result<u32, Refusal>
     requires { length (symbols w) ≤ limit }
     ensures { counted_view result ≡ piece_verdict (block_by rule) (symbols w.entry) ends.now }

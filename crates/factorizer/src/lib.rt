@@ -2,6 +2,9 @@
 // answer from a filled table, and the judge of a factorization into either kind of blocks.
 #![tactic(auto)]
 
+ghost use Rattle.std.specs.Prelude.{◌≡◌};
+ghost use Rattle.factorizer.specs.Rule.{rule_of};
+
 pub mod inner;
 
 use periods::Edition;
@@ -11,4 +14,15 @@ use periods::Edition;
 pub enum Rule {
     Repetition(Edition),
     Square,
+}
+
+// The rule for the blocks of an edition, by its number. A number that names no edition, which the calls
+// refuse, counts as edition 2.
+pub fn rule_of(edition: u32) -> Rule
+    ensures { result ≡ rule_of edition }
+{
+    match edition {
+        periods::FIRST_EDITION => Rule::Repetition(Edition::First),
+        _ => Rule::Repetition(Edition::Second),
+    }
 }

@@ -6,6 +6,10 @@ use Rattle.factors.specs.Factorization.{Choice, smallest, largest, choice_of, ba
 use Rattle.factors.specs.declared.Choice as known
 use Rattle.factors.specs.declared.Choice.TheVariants.{Fewest, Most}
 
+-- what may be asked for
+abbrev pub Asked : Type 0
+Asked = Choice
+
 -- what a choice that is known asks for
 abbrev pub choice_in : known.Choice → Choice
 choice_in Fewest = smallest

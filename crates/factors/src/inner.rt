@@ -1,10 +1,9 @@
 // For the library's own crates: the caller shows what each function requires.
 ghost use Rattle.std.specs.Prelude.{◌≡◌, ◌++◌, ◌≤◌, ◌<◌, ◌^◌, length, drop};
-ghost use Rattle.factors.specs.Choice.{choice_in};
 ghost use Rattle.factors.specs.Table.{started, offered, ends_back, Linked};
 ghost use Rattle.factors.specs.Verdict.{end_of};
 
-use super::{Choice, NONE};
+use super::{AsChoice, NONE};
 
 // Sets row 0 before any block is offered; the other places stay.
 pub fn start(work: &mut [u32], n: usize)
@@ -18,12 +17,12 @@ pub fn start(work: &mut [u32], n: usize)
 // Offers a size, reached from boundary j, to the boundary whose size stands at place at and whose
 // previous boundary at place back. Only a strictly better one is taken, so that of equal ones the
 // first offered stays.
-pub fn offer(work: &mut [u32], choice: Choice, at: usize, back: usize, size: u32, j: u32)
+pub fn offer<C: AsChoice>(work: &mut [u32], choice: C, at: usize, back: usize, size: u32, j: u32)
     requires { (at < length work.old) × (back < length work.old) }
-    ensures { work.new ≡ offered (choice_in choice) at back size j work.old }
+    ensures { work.new ≡ offered (C.asked choice) at back size j work.old }
 {
     let known = work[at];
-    if known == NONE || choice.prefers(size, known) {
+    if known == NONE || choice.choice().prefers(size, known) {
         work[at] = size;
         work[back] = j;
     }

@@ -3,8 +3,8 @@
 #![tactic(auto)]
 
 ghost use Rattle.std.specs.Prelude.{◌≡◌};
-ghost use Rattle.factors.specs.Factorization.{better};
-ghost use Rattle.factors.specs.Choice.{choice_in, choice_named};
+ghost use Rattle.factors.specs.Factorization.{choice_of, better};
+ghost use Rattle.factors.specs.Choice.{Asked, choice_in, choice_named};
 ghost use Rattle.factors.specs.Verdict.{bad_end?};
 
 pub mod inner;
@@ -50,9 +50,49 @@ impl Choice {
     pub fn prefers(self, size: u32, known: u32) -> bool
         ensures { result ≡ better (choice_in self) size known }
     {
+        // Branches, which a loop over one choice takes out of itself; a value of the match would be two
+        // comparisons and a selection in each turn.
         match self {
-            Choice::Fewest => size < known,
-            Choice::Most => known < size,
+            Choice::Fewest => {
+                if size < known {
+                    return true;
+                }
+            }
+            Choice::Most => {
+                if known < size {
+                    return true;
+                }
+            }
+        }
+        false
+    }
+}
+
+// What `offer` and what fills a working table are told: a choice, or the number of one. For them every
+// number but 1 asks for the most, also one that the calls refuse.
+pub trait AsChoice: Copy {
+    // what it asks for
+    ghost asked: { Self → Asked };
+
+    fn choice(self) -> Choice
+        ensures { choice_in result ≡ asked self };
+}
+
+impl AsChoice for Choice {
+    ghost asked = { choice_in };
+
+    fn choice(self) -> Choice {
+        self
+    }
+}
+
+impl AsChoice for u32 {
+    ghost asked = { choice_of };
+
+    fn choice(self) -> Choice {
+        match self {
+            FEWEST => Choice::Fewest,
+            _ => Choice::Most,
         }
     }
 }

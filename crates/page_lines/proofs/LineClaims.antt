@@ -1,4 +1,4 @@
--- A line, of any form, is one line of 60 characters and byte 10, which stands nowhere else (line_is_one); each of its columns reads as its number
+-- A line, of any form that fits, is one line of 60 characters and byte 10, which stands nowhere else (line_is_one); each of its columns reads as its number
 -- (column_reads). By induction on the lists: columns and symbols fill the places that they have, and digits and spaces are other bytes. Assumes nothing.
 use mathlib.Core.Path.{◌≡◌, refl, sym, ap, ◌∙◌, subst}
 use mathlib.Core.Logic.{◌≢◌}
@@ -17,7 +17,7 @@ use Rattle.decimals.specs.Decimal.{digits_in, digit_count, plain, digit?, digits
 use Rattle.decimals.proofs.Claims.{digit_low, digits_are_digits, plain_value}
 use Rattle.decimals.proofs.Fields.{at_most_at}
 use Rattle.writers.proofs.Stores.{stored, left_all, left_less, left_last}
-use Rattle.page_lines.specs.Line.{widths, width_of, sum, start_of, number_columns, line_width, line_bytes, space, spaces, right_aligned, columns, hex_bytes, hex_byte, hex_digits, symbols, left_aligned, unit_column, Fits, line, NoEnd, OneLine, greatest, LineNumbers}
+use Rattle.page_lines.specs.Line.{widths, width_of, sum, start_of, number_columns, line_width, line_bytes, space, spaces, right_aligned, columns, hex_bytes, hex_byte, hex_digits, symbols, left_aligned, unit_column, byte_form, code_form, Fits, line, NoEnd, OneLine, greatest, LineNumbers}
 use Rattle.page_lines.specs.declared.form.Form.{Form}
 use Rattle.page_lines.proofs.Columns.{start_unit, right_length, line_number_short, symbols-length}
 
@@ -40,19 +40,21 @@ module _ (numbers : List ℕ) (N : LineNumbers numbers) where
   numbers_length : length (columns widths numbers) ≡ start_of number_columns
   numbers_length = columns-length widths numbers fits (omega arith) ∙ ap start_of N.0
 
--- CLAIM: each form fits
-pub form_fits : (form : Form) → Fits form
-form_fits form = form.fits
+pub byte_form_fits : Fits byte_form
+byte_form_fits = omega arith
+
+pub code_form_fits : Fits code_form
+code_form_fits = omega arith
 
 -- the symbols that are shown fit into the last column
-pub shown_fit : (form : Form) → (unit : List ℕ) (k : ℕ) → k ≤ form.shown → form.digits * length (take k unit) ≤ width_of number_columns
-shown_fit form unit k h = omega (arith, mul-le-mul_left {m = length (take k unit)} {n = form.shown} form.digits (omega (arith, length-take k unit)), form_fits form)
+pub shown_fit : (form : Form) → Fits form → (unit : List ℕ) (k : ℕ) → k ≤ form.shown → form.digits * length (take k unit) ≤ width_of number_columns
+shown_fit form F unit k h = omega (arith, mul-le-mul_left {m = length (take k unit)} {n = form.shown} form.digits (omega (arith, length-take k unit)))
 
 -- the last column is filled up
-unit_length : (form : Form) → (unit : List ℕ) → length (unit_column form.digits form.shown unit) ≡ width_of number_columns
-unit_length form unit =
+unit_length : (form : Form) → Fits form → (unit : List ℕ) → length (unit_column form.digits form.shown unit) ≡ width_of number_columns
+unit_length form F unit =
     let s = symbols form.digits (take form.shown unit) in
-    omega (arith, length-append s (spaces (width_of number_columns - length s)), length-replicate (width_of number_columns - length s) space, symbols-length form.digits (take form.shown unit), shown_fit form unit form.shown (omega arith))
+    omega (arith, length-append s (spaces (width_of number_columns - length s)), length-replicate (width_of number_columns - length s) space, symbols-length form.digits (take form.shown unit), shown_fit form F unit form.shown (omega arith))
 
 pub line_is : (form : Form) (numbers unit : List ℕ) → line form numbers unit ≡ columns widths numbers ++ (unit_column form.digits form.shown unit ++ (line_end ∷ []))
 unfolding line
@@ -64,16 +66,16 @@ take_least : (k : ℕ) (l : List ℕ) → take (min (length l) k) l ≡ take k l
 take_least k l = elim (dec_lt k (length l)) [ yes h ↦ ap (λ (j : ℕ). take j l) {x = min (length l) k} {y = k} (omega arith) | no h ↦ ap (λ (j : ℕ). take j l) {x = min (length l) k} {y = length l} (omega arith) ∙ take_all (length l) l (omega arith) ∙ sym (take_all k l (omega arith)) ]
 
 -- the numbers, the symbols and the line's end, one after the other
-pub line_stored : (form : Form) → (t u v numbers unit : List ℕ) (at s k : ℕ) → LineNumbers numbers → u ≡ sets t at (columns widths numbers)
+pub line_stored : (form : Form) → Fits form → (t u v numbers unit : List ℕ) (at s k : ℕ) → LineNumbers numbers → u ≡ sets t at (columns widths numbers)
     → s ≡ start_of number_columns → k ≡ min (length unit) form.shown
     → v ≡ sets u (at + s) (left_aligned (width_of number_columns) (symbols form.digits (take k unit))) → set v (at + line_width) line_end ≡ sets t at (line form numbers unit)
-line_stored form t u v numbers unit at s k N e f h w =
+line_stored form F t u v numbers unit at s k N e f h w =
     let front = columns widths numbers in
     let last = unit_column form.digits form.shown unit in
     let shown : take k unit ≡ take form.shown unit = ap (λ (j : ℕ). take j unit) h ∙ take_least form.shown unit in
     let w' : v ≡ sets u (at + start_of number_columns) last = w ∙ rw (f, shown) refl in
     let A = stored t at front u (at + start_of number_columns) (ap (λ (n : ℕ). at + n) (sym (numbers_length numbers N)), e) in
-    let B = stored u (at + start_of number_columns) last v (at + line_width) (omega (arith, unit_length form unit, start_unit), w') in
+    let B = stored u (at + start_of number_columns) last v (at + line_width) (omega (arith, unit_length form F unit, start_unit), w') in
     let C = stored v (at + line_width) (line_end ∷ []) (set v (at + line_width) line_end) (at + line_bytes) (omega arith, refl) in
     (left_last (left_less (line_end ∷ []) (left_less (last ++ (line_end ∷ [])) (left_all t at (line form numbers unit) (front ++ (last ++ (line_end ∷ []))) (line_is form numbers unit)) A) B) C).bytes
 
@@ -135,21 +137,21 @@ unended_unit k shown unit =
     unended_append s (spaces (width_of number_columns - length s)) (unended_symbols k (take shown unit)) (unended_spaces (width_of number_columns - length s))
 
 -- CLAIM: a line is one line of exactly 60 characters and byte 10, which stands nowhere else
-pub line_is_one : (form : Form) → (numbers unit : List ℕ) → LineNumbers numbers → OneLine (line form numbers unit)
-line_is_one form numbers unit N =
+pub line_is_one : (form : Form) → Fits form → (numbers unit : List ℕ) → LineNumbers numbers → OneLine (line form numbers unit)
+line_is_one form F numbers unit N =
     let front = columns widths numbers in
     let last = unit_column form.digits form.shown unit in
     record {
       characters = front ++ last;
-      wide = omega (arith, length-append front last, numbers_length numbers N, unit_length form unit, start_unit);
+      wide = omega (arith, length-append front last, numbers_length numbers N, unit_length form F unit, start_unit);
       unended = unended_append front last (unended_columns widths numbers) (unended_unit form.digits form.shown unit);
       is = line_is form numbers unit ∙ sym (append_assoc front last (line_end ∷ []));
     }
 
 -- so it has 61 bytes
-pub line-length : (form : Form) → (numbers unit : List ℕ) → LineNumbers numbers → length (line form numbers unit) ≡ line_bytes
-line-length form numbers unit N =
-    let L = line_is_one form numbers unit N in
+pub line-length : (form : Form) → Fits form → (numbers unit : List ℕ) → LineNumbers numbers → length (line form numbers unit) ≡ line_bytes
+line-length form F numbers unit N =
+    let L = line_is_one form F numbers unit N in
     omega (arith, ap length L.is, length-append L.characters (line_end ∷ []), L.wide)
 
 -- ---- reading a column

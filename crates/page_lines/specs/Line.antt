@@ -1,7 +1,6 @@
 -- The line of a page: "Each block of a split becomes one line of exactly 60 characters and byte 10." How its last column shows the unit is a form, one for bytes
 -- and one for 16-bit codes.
 use Rattle.std.specs.Prelude.{◌≡◌, ◌≢◌, List, [], ◌∷◌, ◌++◌, ℕ, ◌+◌, ◌-◌, ◌*◌, ◌≤◌, length, get_or, take, replicate}
-use Rattle.std.proofs.Common.{arith}
 use Rattle.decimals.specs.Decimal.{digits_in, plain, line_end, AtMost}
 use Rattle.page_lines.specs.declared.form.Form.{Form}
 
@@ -73,12 +72,12 @@ unit_column k shown unit = left_aligned (width_of number_columns) (symbols k (ta
 
 -- "The last column shows the first nine passes of the unit, two lower-case hexadecimal digits each, spaces after a shorter unit."
 abbrev pub byte_form : Form
-byte_form = record { digits = 2; shown = 9; fits = omega arith }
+byte_form = record { digits = 2; shown = 9 }
 
 -- "A page of 16-bit codes shows the first four passes of the unit, four lower-case hexadecimal digits each, filled up to eighteen with spaces; byte pages keep
 -- their form."
 abbrev pub code_form : Form
-code_form = record { digits = 4; shown = 4; fits = omega arith }
+code_form = record { digits = 4; shown = 4 }
 
 -- the symbols that are shown have room in the last column
 abbrev pub Fits : Form → Type 0

@@ -3,7 +3,7 @@
 ghost use Rattle.std.specs.Prelude.{◌≡◌, ◌≤◌, ◌<◌, ◌+◌, ◌*◌, length};
 ghost use Rattle.std.proofs.lemmas.List.Edits.{sets};
 ghost use Rattle.decimals.specs.Decimal.{plain};
-ghost use Rattle.page_lines.specs.Line.{widths, columns, line, line_bytes, LineNumbers};
+ghost use Rattle.page_lines.specs.Line.{widths, columns, line, line_bytes, LineNumbers, Fits};
 ghost use Rattle.page_lines.specs.Line.{spaces, right_aligned, left_aligned, hex_digits, symbols};
 
 use crate::Form;
@@ -81,7 +81,7 @@ fn put_numbers(out: &mut [u8], at: usize, numbers: &[u32])
 
 // Writes the line of a block's numbers and its unit from place at on.
 pub fn put_line(out: &mut [u8], at: usize, form: Form, numbers: &[u32], unit: &[u16])
-    requires { (at + line_bytes ≤ length out.old) × LineNumbers numbers.now }
+    requires { (at + line_bytes ≤ length out.old) × LineNumbers numbers.now × Fits form }
     ensures { out.new ≡ sets out.old at (line form numbers.now unit.now) }
 {
     let shown = unit.len().min(form.shown);

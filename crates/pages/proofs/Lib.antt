@@ -1,3 +1,4 @@
+mod Forms
 pub mod PageClaims
 pub mod CallClaims
 pub mod Determined

@@ -1,4 +1,4 @@
--- The page of a split, of any form, for words of fewer than 100,000 symbols: the numbers of a block are below 100,000, the run's too, since a word has
+-- The page of a split, of any form that fits, for words of fewer than 100,000 symbols: the numbers of a block are below 100,000, the run's too, since a word has
 -- no more runs than symbols; so each block has one line of 60 characters and byte 10 (lines_there), only the page has such lines (lines_unique), and two splits
 -- of one word with the same page are the same (page_one_split), since the third column reads as the end. By induction on the ends. Assumes nothing.
 use mathlib.Core.Path.{◌≡◌, refl, sym, ap, ap₂, ◌∙◌, subst}
@@ -20,7 +20,7 @@ use Rattle.repetitions.specs.Block.{Block}
 use Rattle.repetitions.proofs.Blocks.{block_up, block_unit_lem}
 use Rattle.paths.proofs.PathClaims.{run_number_segment, run_number_unique}
 use Rattle.page_lines.specs.declared.form.Form.{Form}
-use Rattle.page_lines.specs.Line.{line, line_bytes, start_of, width_of, OneLine, greatest, LineNumbers}
+use Rattle.page_lines.specs.Line.{Fits, line, line_bytes, start_of, width_of, OneLine, greatest, LineNumbers}
 use Rattle.page_lines.proofs.LineClaims.{line_is_one, line-length, column_reads}
 use Rattle.pages.specs.Page.{page_line, page, LineOf, Lines}
 
@@ -51,14 +51,14 @@ module _ (w : List ℕ) (short : length w ≤ greatest) where
       let run_fits : run_number w i j ≤ greatest = omega (arith, run_number_at_most w i j, table_at_most w) in
       (refl, (number_fits, (first_fits, (last_fits, (unit_fits, (turns_fit, (rest_fits, (run_fits, tt))))))))
 
-module _ (form : Form) (w : List ℕ) (short : length w ≤ greatest) where
+module _ (form : Form) (F : Fits form) (w : List ℕ) (short : length w ≤ greatest) where
   page_line_one : (number i j : ℕ) → Piece w i j → number ≤ j → OneLine (page_line form w number i j)
   page_line_one number i j K h =
-      subst OneLine (page_line_is form w number i j) (line_is_one form (block_numbers w number i j) (part w i (i + smallest_period (part w i j))) (numbers_short w short number i j K h))
+      subst OneLine (page_line_is form w number i j) (line_is_one form F (block_numbers w number i j) (part w i (i + smallest_period (part w i j))) (numbers_short w short number i j K h))
 
   pub page_line-length : (number i j : ℕ) → Piece w i j → number ≤ j → length (page_line form w number i j) ≡ line_bytes
   page_line-length number i j K h =
-      ap length (sym (page_line_is form w number i j)) ∙ line-length form (block_numbers w number i j) (part w i (i + smallest_period (part w i j))) (numbers_short w short number i j K h)
+      ap length (sym (page_line_is form w number i j)) ∙ line-length form F (block_numbers w number i j) (part w i (i + smallest_period (part w i j))) (numbers_short w short number i j K h)
 
   line_of_block : (number i j : ℕ) → Piece w i j → number ≤ j → LineOf form w number i j (page_line form w number i j)
   line_of_block number i j K h =
@@ -95,21 +95,21 @@ unfolding text_of_blocks
 lines_unique form w [] k i m s C L = L
 lines_unique form w (e ∷ es) k i m s C (first, others, A, R, is) = is ∙ ap₂ (λ (x y : List ℕ). x ++ y) (line_unique form w (suc k) i e first C.0 A) (lines_unique form w es (suc k) e m others C.1 R)
 
-module _ (form : Form) (w : List ℕ) (short : length w ≤ greatest) where
+module _ (form : Form) (F : Fits form) (w : List ℕ) (short : length w ≤ greatest) where
   -- CLAIM: a split has one line of 60 characters and byte 10 for each of its blocks
   pub lines_there : (es : List ℕ) (k i m : ℕ) → k ≤ i → Chain (Piece w) i es m → Lines form w k i es (text_of_blocks (page_line form w) k i es)
   unfolding text_of_blocks
   lines_there [] k i m h C = refl
   lines_there (e ∷ es) k i m h C =
       let up = block_up held_period 2 w i e C.0 in
-      (page_line form w (suc k) i e, text_of_blocks (page_line form w) (suc k) e es, line_of_block form w short (suc k) i e C.0 (omega arith), lines_there es (suc k) e m (omega arith) C.1, refl)
+      (page_line form w (suc k) i e, text_of_blocks (page_line form w) (suc k) e es, line_of_block form F w short (suc k) i e C.0 (omega arith), lines_there es (suc k) e m (omega arith) C.1, refl)
 
   text_length : (es : List ℕ) (k i m : ℕ) → k ≤ i → Chain (Piece w) i es m → length (text_of_blocks (page_line form w) k i es) ≡ line_bytes * length es
   unfolding text_of_blocks
   text_length [] k i m h C = refl
   text_length (e ∷ es) k i m h C =
       let up = block_up held_period 2 w i e C.0 in
-      omega (arith, length-append (page_line form w (suc k) i e) (text_of_blocks (page_line form w) (suc k) e es), page_line-length form w short (suc k) i e C.0 (omega arith), text_length es (suc k) e m (omega arith) C.1)
+      omega (arith, length-append (page_line form w (suc k) i e) (text_of_blocks (page_line form w) (suc k) e es), page_line-length form F w short (suc k) i e C.0 (omega arith), text_length es (suc k) e m (omega arith) C.1)
 
   -- CLAIM: the page has 61 bytes a block
   pub page_length : (es : List ℕ) → Factorization (Piece w) (length w) es → length (page form w es) ≡ line_bytes * length es
@@ -137,10 +137,10 @@ module _ (form : Form) (w : List ℕ) (short : length w ≤ greatest) where
       up_f = block_up held_period 2 w i f L
 
       a : length (page_line form w (suc k) i x) ≡ line_bytes
-      a = page_line-length form w short (suc k) i x K (omega (arith, up_x))
+      a = page_line-length form F w short (suc k) i x K (omega (arith, up_x))
 
       b : length (page_line form w (suc k) i f) ≡ line_bytes
-      b = page_line-length form w short (suc k) i f L (omega (arith, up_f))
+      b = page_line-length form F w short (suc k) i f L (omega (arith, up_f))
 
       lines : page_line form w (suc k) i x ≡ page_line form w (suc k) i f
       lines =
@@ -160,10 +160,10 @@ module _ (form : Form) (w : List ℕ) (short : length w ≤ greatest) where
   text_one_split [] [] k i m h C D e = refl
   text_one_split [] (f ∷ fs) k i m h C D e =
       let up = block_up held_period 2 w i f D.0 in
-      absurd (omega (arith, ap length e, length-append (page_line form w (suc k) i f) (text_of_blocks (page_line form w) (suc k) f fs), page_line-length form w short (suc k) i f D.0 (omega arith)))
+      absurd (omega (arith, ap length e, length-append (page_line form w (suc k) i f) (text_of_blocks (page_line form w) (suc k) f fs), page_line-length form F w short (suc k) i f D.0 (omega arith)))
   text_one_split (x ∷ es) [] k i m h C D e =
       let up = block_up held_period 2 w i x C.0 in
-      absurd (omega (arith, ap length e, length-append (page_line form w (suc k) i x) (text_of_blocks (page_line form w) (suc k) x es), page_line-length form w short (suc k) i x C.0 (omega arith)))
+      absurd (omega (arith, ap length e, length-append (page_line form w (suc k) i x) (text_of_blocks (page_line form w) (suc k) x es), page_line-length form F w short (suc k) i x C.0 (omega arith)))
   text_one_split (x ∷ es) (f ∷ fs) k i m h C D e =
       let S = first_same es fs k i x f h C.0 D.0 e in
       let up = block_up held_period 2 w i x C.0 in

@@ -41,26 +41,32 @@ entry_there [] k h = absurd (omega arith)
 entry_there (r ∷ rs) zero h = (r, refl)
 entry_there (r ∷ rs) (suc k) h = let e = entry_there rs k (omega arith) in (e.0, e.1)
 
--- the table u was t; the keys stand in its first places
-module _ (w t u : List ℕ) (count : ℕ) (small : length w ≤ limit) (room : length w ≤ length t) (long : length u ≡ length t) (e : count ≡ length (runs_of w)) (f : u ≡ listed Keys w t) where
-  ends : length (flat_by Keys (runs_of w)) ≡ length (runs_of w)
-  ends = omega (arith, length-flat_by Keys (runs_of w))
+-- the table u was t
+pub keys_listed : (w t u : List ℕ) (count : ℕ) → length w ≤ limit → length w ≤ length t → length u ≡ length t → count ≡ length (runs_of w) → u ≡ listed Keys w t → Keyed w u count
+keys_listed w t u count small room long e f = record {
+  few = omega (arith, table_at_most w);
+  room = omega (arith, table_at_most w);
+  all = e;
+  at = λ k r E. ap (λ (x : List ℕ). get_or x k 0) are ∙ get_or-append (flat_by Keys (runs_of w)) _ 0 k (omega (arith, ends, entry_bounds (runs_of w) (suc k) r E)) ∙ key_at (runs_of w) k r E;
+}
+  where
+    ends : length (flat_by Keys (runs_of w)) ≡ length (runs_of w)
+    ends = omega (arith, length-flat_by Keys (runs_of w))
 
-  are : u ≡ flat_by Keys (runs_of w) ++ drop (length (flat_by Keys (runs_of w))) t
-  are = f ∙ listed_enough Keys w t (omega arith) ∙ sets-front t (flat_by Keys (runs_of w)) (omega (arith, ends, table_at_most w))
+    are : u ≡ flat_by Keys (runs_of w) ++ drop (length (flat_by Keys (runs_of w))) t
+    are = f ∙ listed_enough Keys w t (omega arith) ∙ sets-front t (flat_by Keys (runs_of w)) (omega (arith, ends, table_at_most w))
 
+-- so are they in its first places alone
+module _ (w u : List ℕ) (count : ℕ) (K : Keyed w u count) where
   pub keys_long : length (take count u) ≡ count
-  keys_long = length-take-le count u (omega (arith, table_at_most w))
+  keys_long = length-take-le count u K.room
 
   pub keys_there : Keyed w (take count u) (length (take count u))
   keys_there = record {
-    few = omega (arith, keys_long, table_at_most w);
+    few = omega (arith, keys_long, K.few);
     room = omega arith;
-    all = keys_long ∙ e;
-    at = λ k r E.
-        get_or-take count u k 0 (omega (arith, entry_bounds (runs_of w) (suc k) r E))
-        ∙ ap (λ (x : List ℕ). get_or x k 0) are ∙ get_or-append (flat_by Keys (runs_of w)) _ 0 k (omega (arith, ends, entry_bounds (runs_of w) (suc k) r E))
-        ∙ key_at (runs_of w) k r E;
+    all = keys_long ∙ K.all;
+    at = λ k r E. get_or-take count u k 0 (omega (arith, K.all, entry_bounds (runs_of w) (suc k) r E)) ∙ K.at k r E;
   }
 
 -- ---- the runs of the first keys

@@ -9,7 +9,7 @@ mod inner;
 mod look_up;
 
 use answers::Refusal;
-pub use look_up::{Located, LookUp};
+pub use look_up::{Located, LookUp, list_keys};
 use periods::Symbol;
 
 // Path of a split: writes the run number of each block, and gives the number of blocks. With the

@@ -18,6 +18,15 @@ pub struct Located {
     pub number: u32,
 }
 
+// Writes the keys of all runs, and gives the count of the runs.
+pub fn list_keys(w: Word, keys: &mut [u32]) -> usize
+    requires { (length (symbols w) ≤ limit) × (length (symbols w) ≤ length keys.old) }
+    ensures { Keyed (symbols w.entry) keys.new result }
+{
+    let mut none = [0u32; 0];
+    halves::inner::list(w, Listing::Keys, &mut none, keys)
+}
+
 #[derive(Drop)]
 pub struct LookUp<'a> {
     pub w: Word<'a>,
@@ -43,8 +52,7 @@ impl<'a> LookUp<'a> {
         ensures word { symbols result.w ≡ symbols w.entry }
         ensures start { result.before ≡ 0 }
     {
-        let mut none = [0u32; 0];
-        let count = halves::inner::list(w, Listing::Keys, &mut none, table);
+        let count = list_keys(w, table);
         LookUp {
             w,
             keys: &table[..count],

@@ -6,6 +6,8 @@ ghost use Rattle.periods.specs.Part.{part_view, part_outcome, part_table, PartMe
 use super::{Description, Edition, Word};
 use answers::Refusal;
 
+// Inlined, so that each call goes over the symbols of one width.
+#[inline(always)]
 pub fn part(
     w: Word,
     edition: u32,

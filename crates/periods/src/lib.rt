@@ -2,6 +2,7 @@
 #![tactic(auto)]
 
 ghost use Rattle.std.specs.Prelude.{◌≡◌, length};
+ghost use Rattle.periods.specs.Edition.{turns_of};
 ghost use Rattle.periods.specs.Part.{part_view, part_outcome, part_table, PartMeaning};
 
 mod edition;
@@ -38,6 +39,17 @@ pub struct Description {
     pub exponent: u32,
     pub remainder: u32,
     pub repetition: bool,
+}
+
+// The whole turns that a repetition (block) has at least, by the number of an edition, as Edition::turns. A
+// number that names no edition, which the calls refuse, has those of edition 2.
+pub fn turns(edition: u32) -> usize
+    ensures { result ≡ turns_of edition }
+{
+    match edition {
+        FIRST_EDITION => FIRST_TURNS,
+        _ => SECOND_TURNS,
+    }
 }
 
 // The part call: unit, turns, rest, and block or not, of the symbols at the positions first to

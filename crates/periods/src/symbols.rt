@@ -45,6 +45,9 @@ pub(crate) fn units<S: Symbol>(part: &[S], table: &mut [u32]) -> usize
 }
 
 // Word::block_unit of symbols.
+// Two pairs a turn: a turn of one pair is so short that its time goes by where it is linked, and then one
+// width takes half as long again as the other.
+#[inline(always)]
 pub(crate) fn block_unit<S: Symbol>(part: &[S], edition: Edition) -> usize
     ensures { result ≡ block_unit (turns_in edition) (S.numbers part.now) }
 {
@@ -53,8 +56,17 @@ pub(crate) fn block_unit<S: Symbol>(part: &[S], edition: Edition) -> usize
         if !edition.is_block(n, p) {
             return 0;
         }
-        for i in 0..n - p {
+        let pairs = n - p;
+        let odd = pairs % 2;
+        if odd == 1 && part[0] != part[p] {
+            continue 'outer;
+        }
+        for k in 0..pairs / 2 {
+            let i = odd + 2 * k;
             if part[i] != part[i + p] {
+                continue 'outer;
+            }
+            if part[i + 1] != part[i + 1 + p] {
                 continue 'outer;
             }
         }

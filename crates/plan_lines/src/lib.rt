@@ -91,8 +91,8 @@ pub fn is_line(kind: Kind, s: &[u8]) -> bool
     ensures { result ≡ line? (is_long kind) s.now }
 {
     let len = s.len();
-    let count_at = inner::count_place(kind);
-    if len < inner::bytes_for(kind, 0) {
+    let count_at = kind.count_place();
+    if len < kind.bytes_for(0) {
         return false;
     }
     if !s.starts_with(&kind.prefix()) {
@@ -101,14 +101,14 @@ pub fn is_line(kind: Kind, s: &[u8]) -> bool
     if !inner::field_at(kind, s, LENGTH_PLACE) {
         return false;
     }
-    if kind.needless(inner::number(kind, s, LENGTH_PLACE)) {
+    if kind.needless(kind.number(s, LENGTH_PLACE)) {
         return false;
     }
     if !inner::field_at(kind, s, count_at) {
         return false;
     }
-    let count = inner::number(kind, s, count_at) as usize;
-    if len != inner::bytes_for(kind, count) {
+    let count = kind.number(s, count_at) as usize;
+    if len != kind.bytes_for(count) {
         return false;
     }
     if !inner::ends_at(kind, s, count) {

@@ -26,7 +26,7 @@ pub fn write_plan(n: u32, ends: &[u32], out: &mut [u8]) -> Result<u32, Refusal>
 {
     let count = inner::judge(LIMIT, n, ends.len(), |k| ends[k])?;
     let kind = Kind::of(n);
-    let bytes = plan_lines::inner::bytes_for(kind, count as usize);
+    let bytes = kind.bytes_for(count as usize);
     if out.len() < bytes {
         return Err(Refusal::TooFewPlaces);
     }
@@ -45,13 +45,13 @@ pub fn read_plan(s: &[u8], table: &mut [u32]) -> Result<Plan, Refusal>
     if !plan_lines::is_line(kind, s) {
         return Err(Refusal::NotPlan);
     }
-    let n = plan_lines::inner::number(kind, s, LENGTH_PLACE);
-    let stated = plan_lines::inner::number(kind, s, plan_lines::inner::count_place(kind)) as usize;
+    let n = kind.number(s, LENGTH_PLACE);
+    let stated = kind.number(s, kind.count_place()) as usize;
     let most = inner::limit_of(kind);
     let count = inner::judge(most, n, stated, |k| plan_lines::inner::end(kind, s, k))?;
     if table.len() < stated {
         return Err(Refusal::TooFewPlaces);
     }
-    plan_lines::inner::read_ends(kind, s, stated, table);
+    kind.read_ends(s, stated, table);
     Ok(Plan { n, count })
 }

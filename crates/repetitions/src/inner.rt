@@ -30,6 +30,8 @@ pub fn best(
 }
 
 // Judge a split.
+// Inlined, as the judge that it calls.
+#[inline(always)]
 pub fn judge(w: Word, edition: u32, ends: &[u32]) -> Result<u32, Refusal>
     ensures result_value { counted_view result ≡ split_outcome (symbols w.entry) edition ends.now }
     ensures split_meaning { SplitMeaning (symbols w.entry) edition ends.now (counted_view result) }

@@ -12,7 +12,7 @@ ghost use Rattle.factorizer.specs.Window.{RestKept};
 ghost use Rattle.slots.specs.Starts.{rank, rank_in, preferred, slot_of, InRun, Readable, lead_of};
 ghost use Rattle.slots.specs.Ready.{RunsIn, Ready, kept_lead, best_with, Admitted, Added};
 
-use factors::{Choice, NONE};
+use factors::{AsChoice, Choice, NONE};
 use periods::Word;
 use std::cmp::Ordering;
 
@@ -153,22 +153,23 @@ fn admit(
 // from. Boundaries in rising order; each takes the runs that it lies in. Time: a step for each run and
 // each boundary in it.
 // Kept: `RunsIn` is over the whole table that is lent, so the count of its runs stands beside it.
-pub fn fill(w: Word, runs: &[u32], count: usize, choice: Choice, work: &mut [u32])
+pub fn fill<C: AsChoice>(w: Word, runs: &[u32], count: usize, choice: C, work: &mut [u32])
     requires { Workable (symbols w) work.old × RunsIn (symbols w) runs.now × (count ≡ length (runs_of (symbols w))) }
-    ensures { work.new ≡ filled (choice_in choice) (piece? square? (symbols w.entry)) (length (symbols w.entry)) work.old }
+    ensures { work.new ≡ filled (C.asked choice) (piece? square? (symbols w.entry)) (length (symbols w.entry)) work.old }
 {
     let n = w.len();
     let row = n + 1;
     let two = row + row;
     factors::inner::start(work, n);
     work[row..two].fill(0);
+    let asked = choice.choice();
     let mut next: usize = 0;
     let mut lives: usize = 0;
     for e in 1..n + 1 {
         let upto = admit(work, runs, n, count, e, next, lives);
         lives += upto - next;
         next = upto;
-        lives = visit(w, runs, choice, e, lives, work);
+        lives = visit(w, runs, asked, e, lives, work);
     }
     let four = two + two;
     work[two..four].fill(0);

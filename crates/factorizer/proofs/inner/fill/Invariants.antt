@@ -9,7 +9,7 @@ use Rattle.factorizer.specs.Window.{window_of, Windowed, RestKept}
 use Rattle.factorizer.proofs.inner.fill.Given as goal
 
 abbrev pub invariant-loop-j : goal.invariant-loop-j
-invariant-loop-j l =
+invariant-loop-j _ l =
     let w = symbols l.w in
     let k = turns_in l.edition in
-    Windowed (choice_in l.choice) (piece? (repetition? held_period k) w) w (window_of k) l.j l.j l.unit l.work × RestKept (length w) l.initial.work l.work
+    Windowed (choice_in l.asked) (piece? (repetition? held_period k) w) w (window_of k) l.j l.j l.unit l.work × RestKept (length w) l.initial.work l.work

@@ -7,4 +7,4 @@ use Rattle.page_lines.proofs.inner.put_line.Goals as goal
 pub returns : goal.returns
 returns c =
     let g = c.args in
-    line_stored g.form g.out.now _ _ g.numbers.now g.unit.now g.at _ _ c.requires.1 c.put_numbers.ensures (sym start_unit) c.min-shown.ensures c.put_symbols.ensures
+    line_stored g.form c.requires.2 g.out.now _ _ g.numbers.now g.unit.now g.at _ _ c.requires.1 c.put_numbers.ensures (sym start_unit) c.min-shown.ensures c.put_symbols.ensures

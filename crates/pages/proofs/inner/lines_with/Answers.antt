@@ -16,6 +16,7 @@ use Rattle.writers.proofs.Stores.{stored, left_as, left_less, left_none}
 use Rattle.page_lines.specs.Line.{line_bytes}
 use Rattle.pages.specs.Page.{form_in, page_line}
 use Rattle.pages.proofs.PageClaims.{page_line-length}
+use Rattle.pages.proofs.Forms.{form_in_fits}
 use Rattle.pages.proofs.inner.lines_with.Goals as goal
 
 pub write_block-requires-clause-unit_value : goal.write_block-requires-clause-unit_value
@@ -41,7 +42,7 @@ loop-k-preserved g c =
     let f = c.locate-found.ensures in
     let K : Block held_period 2 w before end = next_block i.invariant.2 c.loop-k-test.true in
     let up = block_up held_period 2 w before end K in
-    let long = page_line-length form w (omega (arith, c.requires.0.0)) (i.k + 1) before end K (omega (arith, i.invariant.1)) in
+    let long = page_line-length form (form_in_fits c.args.w) w (omega (arith, c.requires.0.0)) (i.k + 1) before end K (omega (arith, i.invariant.1)) in
     let S = stored i.out (line_bytes * i.k) (page_line form w (i.k + 1) before end) c.write_block.new.out (line_bytes * (i.k + 1)) (omega (arith, long), c.write_block.ensures) in
     rw f.boundary (
       f.word ∙ i.invariant.0,

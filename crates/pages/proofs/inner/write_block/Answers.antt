@@ -17,7 +17,8 @@ use Rattle.repetitions.specs.Block.{Block}
 use Rattle.repetitions.proofs.Blocks.{block_up, block_unit_lem}
 use Rattle.paths.proofs.Noting.{unit_held}
 use Rattle.page_lines.specs.declared.form.Form.{Form}
-use Rattle.page_lines.specs.Line.{line_bytes, line, LineNumbers}
+use Rattle.page_lines.specs.Line.{line_bytes, line, LineNumbers, Fits}
+use Rattle.page_lines.proofs.LineClaims.{byte_form_fits, code_form_fits}
 use Rattle.pages.specs.Page.{form_in, page_line}
 use Rattle.pages.proofs.PageClaims.{numbers_short, page_line_is}
 use Rattle.pages.proofs.inner.write_block.Goals as goal
@@ -69,7 +70,7 @@ put_line-requires c =
     let q = c.requires.k_le_before in
     let w = symbols g.w in
     let n = c.block_numbers-numbers.ensures ∙ block_numbers_are w g.k g.before g.end g.found.unit g.found.number q.2.0 c.requires.unit_value.0 c.requires.unit_value.1 in
-    (omega (arith, q.3), numbers_fit w g.before g.end g.found.unit q.2 c.requires.unit_value.0 g.k c.block_numbers-numbers.result q.1 q.0 n)
+    (omega (arith, q.3), numbers_fit w g.before g.end g.found.unit q.2 c.requires.unit_value.0 g.k c.block_numbers-numbers.result q.1 q.0 n, subst Fits (sym c.code_form-form.ensures) code_form_fits)
 
 pub returns-in-Codes : goal.returns-in-Codes
 returns-in-Codes c =
@@ -101,7 +102,7 @@ put_line-requires-in-Bytes c =
     let q = c.requires.k_le_before in
     let w = symbols g.w in
     let n = c.block_numbers-numbers.ensures ∙ block_numbers_are w g.k g.before g.end g.found.unit g.found.number q.2.0 c.requires.unit_value.0 c.requires.unit_value.1 in
-    (omega (arith, q.3), numbers_fit w g.before g.end g.found.unit q.2 c.requires.unit_value.0 g.k c.block_numbers-numbers.result q.1 q.0 n)
+    (omega (arith, q.3), numbers_fit w g.before g.end g.found.unit q.2 c.requires.unit_value.0 g.k c.block_numbers-numbers.result q.1 q.0 n, subst Fits (sym c.byte_form-form.ensures) byte_form_fits)
 
 pub returns-in-Bytes : goal.returns-in-Bytes
 returns-in-Bytes c =

@@ -10,6 +10,7 @@ use Rattle.factors.specs.Factorization.{Choice}
 use Rattle.factors.specs.Choice.{choice_in}
 use Rattle.factors.specs.Table.{started, filled}
 use Rattle.factors.proofs.Lent.{lent}
+use Rattle.periods.specs.Width.{symbols}
 use Rattle.periods.specs.Square.{square?}
 use Rattle.factorizer.specs.Piece.{piece?}
 use Rattle.factorizer.specs.Fill.{Workable}
@@ -55,18 +56,18 @@ module _ (x : Choice) (w runs t : List ℕ) (n : ℕ) (is : n ≡ length w) (W :
         ∙ rw is (filled_from x (piece? square? w) w t u W.1 kept (ready_ends x w runs e e lives u (omega arith) S))
 
 pub loop-e-init : goal.loop-e-init
-loop-e-init c =
+loop-e-init _ c =
     let z = c.fill.ensures.after (λ y e. e) in
     record {
       next_fits = omega arith;
       few_lives = omega arith;
       before = λ i h. absurd (omega arith);
       ready = starts _ _ _ _ _ c.len-n.ensures c.requires.0 c.requires.1 _ _ c.start.ensures z;
-      rest = starts_kept (choice_in c.args.choice) _ _ _ _ c.len-n.ensures c.requires.0 c.requires.1 _ _ c.start.ensures z;
+      rest = starts_kept (choice_in c.choice-asked.result) _ _ _ _ c.len-n.ensures c.requires.0 c.requires.1 _ _ c.start.ensures z;
     }
 
 pub admit-upto-requires : goal.admit-upto-requires
-admit-upto-requires c =
+admit-upto-requires _ c =
     let l = c.loop-e.invariant in (
       omega (arith, c.requires.0.0),
       omega (arith, c.requires.2, (tabled _ _ c.requires.1).few),
@@ -77,10 +78,10 @@ admit-upto-requires c =
     )
 
 pub visit-lives-requires-clause-workable : goal.visit-lives-requires-clause-workable
-visit-lives-requires-clause-workable c =
+visit-lives-requires-clause-workable _ c =
     let l = c.loop-e.invariant in
     let a = c.admit-upto.ensures in
-    let x = choice_in c.args.choice in (
+    let x = choice_in c.choice-asked.result in (
       workable x _ _ _ _ c.len-n.ensures c.requires.0 c.requires.1 _ l.rest _ _ _ _ _ _ c.requires.2 a.admitted a.added,
       c.requires.1,
       omega arith,
@@ -89,12 +90,13 @@ visit-lives-requires-clause-workable c =
     )
 
 pub visit-lives-requires-clause-ready : goal.visit-lives-requires-clause-ready
-visit-lives-requires-clause-ready c =
+visit-lives-requires-clause-ready _ c =
     let l = c.loop-e.invariant in
     let a = c.admit-upto.ensures in
     ready _ _ _ _ _ c.len-n.ensures c.requires.0 c.requires.1 _ l.rest _ _ _ _ _ _ c.requires.2 a.admitted a.added (omega arith) l.before l.ready
 
 pub returns : goal.returns
-returns c =
+returns _ c =
     let l = c.loop-e.invariant in
     ended _ _ _ _ _ c.len-n.ensures c.requires.0 c.requires.1 _ l.rest c.loop-e.e c.loop-e.lives _ (omega arith) l.ready (c.fill-2.ensures.after (λ y e. e))
+    ∙ ap (λ (x : Choice). filled x (piece? square? (symbols c.args.w)) (length (symbols c.args.w)) c.args.work.now) c.choice-asked.ensures

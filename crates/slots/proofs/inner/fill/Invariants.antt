@@ -10,10 +10,10 @@ use Rattle.slots.specs.Ready.{Ready}
 use Rattle.slots.proofs.inner.fill.Given as goal
 
 abbrev pub invariant-loop-e : goal.invariant-loop-e
-invariant-loop-e l = record {
+invariant-loop-e _ l = record {
   next_fits : l.next ≤ l.count;
   few_lives : l.lives ≤ l.next;
   before : (i : ℕ) → i < l.next → (record_at l.runs i).first < l.e;
-  ready : Ready (choice_in l.choice) (symbols l.w) l.runs l.e l.e l.lives l.work;
+  ready : Ready (choice_in l.asked) (symbols l.w) l.runs l.e l.e l.lives l.work;
   rest : RestKept (length (symbols l.w)) l.fn.work l.work;
 }

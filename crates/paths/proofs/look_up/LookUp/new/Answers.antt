@@ -5,14 +5,10 @@ use Rattle.paths.proofs.Noting.{keys_long, keys_there, none_noted}
 use Rattle.paths.proofs.look_up.LookUp.new.Goals as goal
 
 pub slice_bounds-result-end : goal.slice_bounds-result-end
-slice_bounds-result-end c =
-    let l = c.list-count in
-    sym (keys_long (symbols c.args.w) c.args.table.now _ _ c.requires.0 c.requires.1 l.auto.table l.ensures.value l.ensures.table_after)
+slice_bounds-result-end c = sym (keys_long (symbols c.args.w) _ _ c.list_keys-count.ensures)
 
 pub invariant_of-result-clause-keyed : goal.invariant_of-result-clause-keyed
-invariant_of-result-clause-keyed c =
-    let l = c.list-count in
-    keys_there (symbols c.args.w) c.args.table.now _ _ c.requires.0 c.requires.1 l.auto.table l.ensures.value l.ensures.table_after
+invariant_of-result-clause-keyed c = keys_there (symbols c.args.w) _ _ c.list_keys-count.ensures
 
 pub invariant_of-result-clause-last : goal.invariant_of-result-clause-last
 invariant_of-result-clause-last c = none_noted _ _ _ refl
