@@ -1,5 +1,5 @@
--- The tests of repetitions and of squares decide what they test, and in a window the unit of a part tells whether it is a block: its turns fit into the part. Assumes
--- nothing.
+-- The tests of repetitions and of squares decide what they test, and in a window the unit of a part tells whether it is a block: its turns fit into the part.
+-- The rule of an edition's number asks for the turns of that number (`rule_by_turns`). Assumes nothing.
 use mathlib.Core.Path.{◌≡◌, refl, sym, ◌∙◌}
 use mathlib.Core.Bool.{Bool, true, false, cond, ◌&&◌, and-true}
 use mathlib.Core.List.{List}

@@ -23,6 +23,7 @@ use periods::{Edition, Word};
 // Offers a size from boundary j to each of the next len boundaries at which a block that starts there
 // ends: the turns of its unit fit into it. Row 2 has the units of the parts after boundary j; they
 // never fall, so the first that is too long for any part ends the work.
+// Whether a block ends is asked first: where one does, the unit is not too long.
 fn spread(
     work: &mut [u32],
     n: usize,
@@ -40,12 +41,11 @@ fn spread(
     let units = row + row;
     for d in 0..len {
         let span = turns * (work[units + d] as usize);
-        if len < span {
-            return;
-        }
         if span <= d + 1 {
             let m = j + d + 1;
             factors::inner::offer(work, choice, m, row + m, size, j as u32);
+        } else if len < span {
+            return;
         }
     }
 }
@@ -185,6 +185,8 @@ pub fn best(
 
 // Whether a word is a block.
 // Kept: `block_by` of the judge's clause is over the rule, which a closure would not have.
+// Inlined, so that a loop over the blocks has the test of its rule and of one width in it.
+#[inline(always)]
 fn is_block(w: Word, rule: Rule) -> bool
     ensures { result ≡ block_by rule (symbols w.entry) }
 {

@@ -11,6 +11,8 @@ use super::{Edition, Symbol, TWICE, UNIT_MEMORY};
 // p is the smallest candidate for the prefix of m + 1 symbols that is a period of the first m, so
 // that the pairs p apart before (m - p, m) agree. Where that pair differs, the next candidate is p
 // plus the unit of the prefix of m - p symbols; where p is all of m, only m + 1 is left.
+// Not inlined: in a large caller the loop would have its values in memory, not in registers.
+#[inline(never)]
 pub(crate) fn units<S: Symbol>(part: &[S], table: &mut [u32]) -> usize
     requires { (length part.now ≤ length table.old) × (length part.now < 2 ^ 32) }
     ensures unit { result ≡ smallest_period (S.numbers part.now) }
@@ -45,8 +47,7 @@ pub(crate) fn units<S: Symbol>(part: &[S], table: &mut [u32]) -> usize
 }
 
 // Word::block_unit of symbols.
-// Two pairs a turn: a turn of one pair is so short that its time goes by where it is linked, and then one
-// width takes half as long again as the other.
+// The first pair stands before the loop: often it differs, and in a block of two symbols it is the only one.
 #[inline(always)]
 pub(crate) fn block_unit<S: Symbol>(part: &[S], edition: Edition) -> usize
     ensures { result ≡ block_unit (turns_in edition) (S.numbers part.now) }
@@ -56,17 +57,11 @@ pub(crate) fn block_unit<S: Symbol>(part: &[S], edition: Edition) -> usize
         if !edition.is_block(n, p) {
             return 0;
         }
-        let pairs = n - p;
-        let odd = pairs % 2;
-        if odd == 1 && part[0] != part[p] {
+        if part[0] != part[p] {
             continue 'outer;
         }
-        for k in 0..pairs / 2 {
-            let i = odd + 2 * k;
+        for i in 1..n - p {
             if part[i] != part[i + p] {
-                continue 'outer;
-            }
-            if part[i + 1] != part[i + 1 + p] {
                 continue 'outer;
             }
         }

@@ -120,6 +120,8 @@ impl<'a> Word<'a> {
     // The unit of the word if it is a repetition (block) of an edition, else 0. It needs no table, for
     // callers that have none to lend; units is linear. No unit is tried that memory does not hold or the
     // word does not have so often: at most UNIT_MEMORY × length comparisons; no stack.
+    // Inlined: for a part of a few symbols a call would take as long as the answer.
+    #[inline(always)]
     pub fn block_unit(self, edition: Edition) -> usize
         ensures { result ≡ block_unit (turns_in edition) (symbols self.entry) }
     {

@@ -13,7 +13,7 @@ use Rattle.factors.specs.Choice.{choice_in}
 use Rattle.factors.specs.Table.{spread}
 use Rattle.factors.proofs.Filling.{spread_none, spread_takes, spread_passes, spread_rest, spread_past}
 use Rattle.factorizer.specs.Fill.{unit_at, ends_block}
-use Rattle.factorizer.proofs.inner.spread.Goals.{then-span-d, else-span-d}
+use Rattle.factorizer.proofs.inner.spread.Goals.{then-span-d, else-span-d+else-len-span}
 use Rattle.factorizer.proofs.inner.spread.Goals as goal
 
 -- so many turns of the unit that is read; the units stay as they were
@@ -54,7 +54,7 @@ loop-d-preserved c =
       | then-span-d w ↦
           w.work-is ∙ w.offer.ensures ∙ rw (l.invariant, e) (spread_takes (choice_in g.choice) g.n g.j g.size (ends_block k g.n g.work.now) g.work.now l.d
           (le-leb (k * unit_at g.n g.work.now l.d) (l.d + 1) (omega (arith, w.if-span-d.true, s))))
-      | else-span-d w ↦
+      | else-span-d+else-len-span w ↦
           w.work-is ∙ l.invariant ∙ spread_passes (choice_in g.choice) g.n g.j g.size (ends_block k g.n g.work.now) g.work.now l.d
           (lt-leb (k * unit_at g.n g.work.now l.d) (l.d + 1) (omega (arith, w.if-span-d.false, s)))
     ]
