@@ -47,7 +47,8 @@ pub(crate) fn units<S: Symbol>(part: &[S], table: &mut [u32]) -> usize
 }
 
 // Word::block_unit of symbols.
-// The first pair stands before the loop: often it differs, and in a block of two symbols it is the only one.
+// The first pair stands before the loop: often it differs, and in a block of two symbols it is the
+// only one.
 #[inline(always)]
 pub(crate) fn block_unit<S: Symbol>(part: &[S], edition: Edition) -> usize
     ensures { result ≡ block_unit (turns_in edition) (S.numbers part.now) }

@@ -25,13 +25,9 @@ first_is_smallest s p a b same none = record { period = record { positive = a; f
     least q Q (yes l) = absurd (none q l Q)
     least q Q (no l) = omega arith
 
--- a candidate that passed the test stands in the part, which has it twice at least
-fits : (k n p : ℕ) → Turns k → true ≡ block_of? k n p → (p ≤ n) × (p ≤ unit_memory)
-fits k n p h e = let m = block_of_means k n p (sym e) in (omega (arith, m.0, mul-le-mul_right p h.0), m.1)
-
--- and leaves a pair
+-- a candidate that passed the test stands in the part twice at least, so that it leaves a pair
 leaves_pair : (k n p : ℕ) → Turns k → true ≡ block_of? k n p → 1 ≤ p → p < n
-leaves_pair k n p h e a = let m = block_of_means k n p (sym e) in omega (arith, a, m.0, mul-le-mul_right p h.0)
+leaves_pair k n p h e a = omega (arith, a, (block_of_means k n p (sym e)).0, mul-le-mul_right p h.0)
 
 -- what memory does not hold is no unit of a block
 too_long : (k n : ℕ) → block_of? k n (suc unit_memory) ≡ false
@@ -41,9 +37,9 @@ too_long k n = go (leb (k * suc unit_memory) n)
     go true = refl
     go false = refl
 
--- the number that the pair at place 0 has second
-second : (s : List ℕ) (p : ℕ) → get_or s (0 + p) 0 ≡ get_or s p 0
-second s p = ap (λ (k : ℕ). get_or s k 0) {x = 0 + p} {y = p} (omega arith)
+-- the pair at place 0 has the number at place p second
+pair_at_start : (s : List ℕ) (p : ℕ) → get_or s (0 + p) 0 ≡ get_or s p 0
+pair_at_start s p = ap (λ (k : ℕ). get_or s k 0) {x = 0 + p} {y = p} (omega arith)
 
 -- a pair p apart differs, so that p is no period
 pub outer-preserved : goal.outer-preserved
@@ -60,7 +56,7 @@ outer-preserved-then-ne g c =
     let p : ℕ = c.outer.p in
     let room = leaves_pair _ _ _ (turns_in_range c.args.edition) c.if-not-is_block.ensures (omega arith) in
     let told = g.met.S.Symbol.told_apart c.args.part.now 0 p _ _ (omega arith) room c.index-part-0.is c.index-part-p.is in
-    below_more _ _ c.outer.invariant (λ Q. pair_unequal _ _ _ told c.if-ne.ensures (Q.same 0 (omega arith) ∙ second _ p))
+    below_more _ _ c.outer.invariant (λ Q. pair_unequal _ _ _ told c.if-ne.ensures (Q.same 0 (omega arith) ∙ pair_at_start _ p))
 
 pub loop-i-init : goal.loop-i-init
 loop-i-init g c = λ k h.
@@ -68,7 +64,7 @@ loop-i-init g c = λ k h.
     let room = leaves_pair _ _ _ (turns_in_range c.args.edition) c.if-not-is_block.ensures (omega arith) in
     let told = g.met.S.Symbol.told_apart c.args.part.now 0 p _ _ (omega arith) room c.index-part-0.is c.index-part-p.is in
     let first : k ≡ 0 = omega arith in
-    rw first (pair_not_unequal _ _ _ told c.if-ne.ensures ∙ sym (second _ p))
+    rw first (pair_not_unequal _ _ _ told c.if-ne.ensures ∙ sym (pair_at_start _ p))
 
 pub loop-i-preserved : goal.loop-i-preserved
 loop-i-preserved g c =
@@ -89,8 +85,8 @@ returns-in-outer g c =
     let s : List ℕ = g.S.Symbol.numbers c.args.part.now in
     let long = g.met.S.Symbol.as_many c.args.part.now in
     let e : true ≡ block_of? (turns_in c.args.edition) (length s) c.outer.p = rw long c.if-not-is_block.ensures in
-    let f = fits (turns_in c.args.edition) (length s) c.outer.p (turns_in_range c.args.edition) e in
-    block_unit_found _ s _ (first_is_smallest s _ (omega arith) f.0 (λ k l. c.loop-i.invariant k (omega arith)) c.outer.invariant) (sym e)
+    let room = leaves_pair (turns_in c.args.edition) (length s) c.outer.p (turns_in_range c.args.edition) e (omega arith) in
+    block_unit_found _ s _ (first_is_smallest s _ (omega arith) (omega (arith, room)) (λ k l. c.loop-i.invariant k (omega arith)) c.outer.invariant) (sym e)
 
 pub returns : goal.returns
 returns g c = block_unit-none _ (g.S.Symbol.numbers c.args.part.now) (suc unit_memory) (λ q l. c.outer.invariant q (omega arith)) (too_long (turns_in c.args.edition) _)
