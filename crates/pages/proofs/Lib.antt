@@ -1,4 +1,4 @@
-mod Forms
+pub mod Forms
 pub mod PageClaims
 pub mod CallClaims
 pub mod Determined
